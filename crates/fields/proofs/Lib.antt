@@ -1,0 +1,9 @@
+pub mod Laws
+pub mod Pieces
+pub mod Turns
+pub mod Ceilings
+pub mod Numbers
+pub mod Bytes
+pub mod Chain
+pub mod Back
+pub mod Sure
