@@ -197,3 +197,8 @@ judged {view = view} {c} {q} test n (accepted a p) e holds =
     let j : p ≡ q = cc in
     rw (j, holds a i, i)
 judged test n (refused m p) e holds = let w : _≡_ {A = ℕ} 0 1 = cc in absurd (omega arith)
+
+-- what a view shows of what was read, as a further view shows it
+pub then-shown : {A C D : Type 0} {s : List ℕ} {view : A → C} {m : Reading A} {p : ℕ} {l : List ℕ} {c : C} (g : C → D) → Back s view m p l c → Back s (λ a. g (view a)) m p l (g c)
+unfolding seen
+then-shown g b = record { reads = λ h. let r = shown b h in rw (r .1, r .2) }

@@ -6,13 +6,14 @@ use mathlib.Core.Bool.{Bool, true, false}
 use native.Mathlib.Omega.{arith}
 use lib.ListN.{length, take, drop}
 use lib.Dec.{leb}
-use Rattle.fields.specs.Ceilings.{Limits, ceiling, tooNew, under, Mark, marks, within, orTooNew, allWithin, Low}
+use Rattle.fields.specs.Ceilings.{ceiling, tooNew, under, Mark, marks, within, orTooNew, allWithin, Low}
 use Rattle.fields.specs.Choice.{if_then_else_}
 use Rattle.fields.specs.Each.{each}
 use Rattle.fields.specs.Pieces.{more}
-use Rattle.fields.specs.Reading.{Which, Reading, done, refuse, place, field, known, Answer, accepted, refused, run, _>>=_, here, andThen}
+use Rattle.fields.specs.Reading.{Which, Reading, done, refuse, place, field, known, Answer, accepted, refused, run, _>>=_, _>>_, here, check, andThen}
 use Rattle.fields.specs.Value.{value, number}
 use Rattle.fields.proofs.Laws.{run-bind}
+use Rattle.fields.specs.declared.Limits.{Limits}
 
 -- past a field that is there, and at one that is not
 at-field : {A : Type 0} (l : Limits) (b : Bool) (ks : List Mark) (x y r : Answer A) → x ≡ orTooNew l ks y
@@ -156,6 +157,12 @@ module _ (l : Limits) where
   pub low-if : {A : Type 0} (b : Bool) (m n : Reading A) → Low l m → Low l n → Low l (if b then m else n)
   low-if true m n h g = h
   low-if false m n h g = g
+
+  -- after a test that held
+  pub low-checked : {A : Type 0} (b : Bool) (n o : ℕ) (m : Reading A) → (b ≡ true → Low l m) → Low l (check b n o >> m)
+  unfolding Low _>>=_
+  low-checked true n o m h = h refl
+  low-checked false n o m h = tt
 
   pub low-each : {S A : Type 0} (m : S → Reading A) (f : S → A → S) → ((z : S) → Low l (m z)) → (n : ℕ) (z : S) → Low l (each m f n z)
   unfolding each

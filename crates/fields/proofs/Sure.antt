@@ -1,6 +1,6 @@
 -- What is sure of whatever a program accepts: one law for each constructor of a program, one for a number, and one for a repetition. Assumes nothing.
 use Prim.Native.Nat.{ℕ, zero, suc, _+_, _^_, _≤_, _<_}
-use mathlib.Core.Path.{_≡_, refl, sym, ap, _∙_}
+use mathlib.Core.Path.{_≡_, refl, sym, ap, subst, _∙_}
 use mathlib.Core.List.{List, [], _∷_, map}
 use mathlib.Core.Bool.{Bool, true, false}
 use native.Mathlib.Omega.{arith}
@@ -9,7 +9,7 @@ use lib.Seq.{take-take, length-take-le}
 use lib.Dec.{leb}
 use borrow.Author.Tests.{leb-true}
 use Rattle.fields.specs.Back.{got, itemsAt, Along, All, Byte, Sure}
-use Rattle.fields.specs.Ceilings.{Limits, under, marks}
+use Rattle.fields.specs.Ceilings.{under, marks}
 use Rattle.fields.specs.Choice.{if_then_else_}
 use Rattle.fields.specs.Each.{each, times}
 use Rattle.fields.specs.Reading.{Which, Reading, done, refuse, field, known, accepted, refused, run, _>>=_, _>>_, here, check, seen}
@@ -17,6 +17,7 @@ use Rattle.fields.specs.Value.{number}
 use Rattle.fields.proofs.Bytes.{rest, all-take, all-drop, value-small}
 use Rattle.fields.proofs.Ceilings.{ceilings, let-through}
 use Rattle.fields.proofs.Laws.{bind-inv}
+use Rattle.fields.specs.declared.Limits.{Limits}
 
 module _ {s : List ℕ} where
   pub sure-then : {A B : Type 0} {m : Reading A} {f : A → Reading B} {p : ℕ} {P : A → ℕ → Type 0} {Q : B → ℕ → Type 0}
@@ -114,3 +115,20 @@ length-map view (a ∷ l) = ap suc (length-map view l)
 -- what is sure of a program is sure of it under ceilings too
 pub sure-under : {A : Type 0} {s : List ℕ} {m : Reading A} {p : ℕ} {P : A → ℕ → Type 0} (l : Limits) → Sure s m p P → Sure s (under l m) p P
 sure-under {s = s} {m} {p} l h = record { holds = λ a q e. h .holds a q (let-through l (marks m s p) _ (e ∙ ceilings l m s p)) }
+
+-- what follows from what is sure
+pub sure-so : {A : Type 0} {s : List ℕ} {m : Reading A} {p : ℕ} {P Q : A → ℕ → Type 0} → Sure s m p P → ((a : A) (q : ℕ) → P a q → Q a q) → Sure s m p Q
+sure-so h f = record { holds = λ a q e. f a q (h .holds a q e) }
+
+-- a list as a view shows it, where the state goes on as the view shows it too
+pub along-map : {S A C : Type 0} {P : S → A → Type 0} {f : S → A → S} (Q : S → C → Type 0) (g : S → C → S) (view : A → C)
+    → ((z : S) (a : A) → P z a → Q z (view a) × (f z a ≡ g z (view a))) → (l : List A) (z : S) → Along P f z l → Along Q g z (map view l)
+along-map Q g view h [] z all = tt
+along-map {f = f} Q g view h (a ∷ l) z all =
+    let i = h z a (all .0) in
+    (i .0, subst (λ y. Along Q g y (map view l)) (i .1) (along-map Q g view h l (f z a) (all .1)))
+
+-- a list as a view shows it is made of what another view shows
+pub map-through : {A C D : Type 0} {P : A → Type 0} (view : A → D) (g : C → D) (f : A → C) → ((a : A) → P a → view a ≡ g (f a)) → (l : List A) → All P l → map view l ≡ map g (map f l)
+map-through view g f h [] all = refl
+map-through view g f h (a ∷ l) all = rw (h a (all .0), map-through view g f h l (all .1))

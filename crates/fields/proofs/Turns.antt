@@ -125,6 +125,15 @@ unfolding seen
 seen-none g (accepted a q) e = let z : _≡_ {A = ℕ} 0 1 = cc in absurd (omega arith)
 seen-none g (refused n p) e = cc
 
+-- a turn of a repetition of which only the place is kept: from what is kept of one item
+module _ {A : Type 0} (m : Reading A) (s : List ℕ) (at n i : ℕ) (below : i < n) where
+  pub passed-on : {q : ℕ} → accepted tt q ≡ passed (run m s at) → passed (run (times (n - i) m) s at) ≡ passed (run (times (n - (i + 1)) m) s q)
+  passed-on e = let r = seen-parts (λ a. tt) (run m s at) e in times-passed m s at n i below (r .1)
+
+  pub passed-not : {w p : ℕ} → refused w p ≡ passed (run m s at) → passed (run (times (n - i) m) s at) ≡ refused w p
+  unfolding seen
+  passed-not e = ap passed (times-stops m s at n i below (seen-none (λ a. tt) (run m s at) e))
+
 module _ {A B : Type 0} (g : A → B) (m : Reading A) (s : List ℕ) (at : ℕ) where
   pub seen-accepted : {b : B} {q : ℕ} → accepted b q ≡ seen g (run m s at) → (a : A) × (accepted a q ≡ run m s at) × (b ≡ g a)
   seen-accepted e = seen-parts g (run m s at) e

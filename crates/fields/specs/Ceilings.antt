@@ -5,17 +5,11 @@ use mathlib.Core.Bool.{Bool, true, false}
 use mathlib.Core.Path.{_≡_}
 use lib.ListN.{length, take, drop}
 use lib.Dec.{leb}
+use Rattle.fields.specs.declared.Limits.{Limits}
 use Rattle.fields.specs.Choice.{if_then_else_}
 use Rattle.fields.specs.Reading.{Which, aVersion, aKind, Reading, done, refuse, place, field, known, Answer, refused}
 
--- the highest version and the highest kind
-pub record Limits : Type 0 where
-  pub versions : ℕ
-  pub kinds : ℕ
-
-abbrev pub limits : ℕ → ℕ → Limits
-limits v k = record { versions = v; kinds = k }
-
+-- the highest version, or the highest kind
 abbrev pub ceiling : Limits → Which → ℕ
 ceiling l aVersion = l .versions
 ceiling l aKind = l .kinds

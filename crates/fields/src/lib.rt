@@ -23,6 +23,12 @@ pub enum Number {
     Refused { why: u64, place: usize },
 }
 
+// A reader's ceilings: the highest version and the highest kind that it takes.
+pub struct Limits {
+    pub versions: u64,
+    pub kinds: u64,
+}
+
 // A width in bytes.
 pub fn bytes_in(width: Width) -> usize
     ensures { λ r. ⌜ r ≡ widthOf width ⌝ }

@@ -1,0 +1,4 @@
+pub mod Rows
+pub mod Products
+pub mod Measures
+pub mod Examples

@@ -1,0 +1,47 @@
+-- The size of a tensor by its tests, one after the other: its kind, the product of its shape, its bytes.
+-- Assumes nothing.
+use Prim.Native.Nat.{ℕ, _*_, _/_, _<_}
+use mathlib.Core.Path.{_≡_}
+use mathlib.Core.Bool.{true}
+use mathlib.Core.List.{List}
+use native.Mathlib.Omega.{arith}
+use lib.Dec.{leb}
+use borrow.Author.Tests.{lt-ltb}
+use Rattle.kinds.specs.declared.Block.{Block}
+use Rattle.kinds.specs.declared.Whole.the-variants.{Fits, Over}
+use Rattle.kinds.specs.declared.Measure.the-variants.{Bytes, Refused}
+use Rattle.kinds.specs.Table.{blockOf, knownKind}
+use Rattle.kinds.specs.Shape.{greatest, productOf, productsFit, wholeOf, measureOf}
+use Rattle.kinds.proofs.Products.{fitted, answered, refused}
+
+-- a is the block of the kind k
+module _ (s : List ℕ) (k : ℕ) {a : Block} (is : a ≡ blockOf k) where
+  -- it holds no number, or some
+  pub no-kind : a .numbers ≡ 0 → Refused 11 ≡ measureOf s k
+  no-kind none = let h : blockOf k .numbers ≡ 0 = cc in rw h
+
+  known : (a .numbers ≡ 0 → ⊥) → knownKind k ≡ true
+  known some = let h : 0 < a .numbers = omega arith in lt-ltb 0 (blockOf k .numbers) (rw is at h)
+
+  -- then a product does not fit
+  pub no-product : (a .numbers ≡ 0 → ⊥) → Over ≡ wholeOf s → Refused 13 ≡ measureOf s k
+  no-product some e = rw (known some, refused (productsFit s) (productOf s) e)
+
+-- the kind is known, and n is the product
+pub record Passed (s : List ℕ) (k : ℕ) (a : Block) (n : ℕ) : Type 0 where
+  pub is : a ≡ blockOf k
+  pub some : a .numbers ≡ 0 → ⊥
+  pub fits : Fits n ≡ wholeOf s
+
+module _ {s : List ℕ} {k : ℕ} {a : Block} {n : ℕ} (passed : Passed s k a n) where
+  -- then the bytes do not fit, or they do
+  pub no-size : Over ≡ fitted (n * a .bytes) → Refused 14 ≡ measureOf s k
+  no-size f =
+      let h = answered (productsFit s) (productOf s) (passed .fits) in
+      rw (known s k (passed .is) (passed .some), h .0, h .1, refused (leb (n * blockOf k .bytes) greatest) (n * blockOf k .bytes) (rw (passed .is) at f))
+
+  pub sized : {b : ℕ} → Fits b ≡ fitted (n * a .bytes) → Bytes n (b / a .numbers) ≡ measureOf s k
+  sized f =
+      let h = answered (productsFit s) (productOf s) (passed .fits) in
+      let g = answered (leb (n * blockOf k .bytes) greatest) (n * blockOf k .bytes) (rw (passed .is) at f) in
+      rw (known s k (passed .is) (passed .some), h .0, h .1, g .0, g .1, passed .is)

@@ -1,0 +1,38 @@
+-- A value of a type is what its form reads: a scalar, a text or an array. Assumes nothing.
+use Prim.Native.Nat.{ℕ, _≤_, _<_}
+use mathlib.Core.Path.{_≡_}
+use mathlib.Core.List.{List}
+use lib.Dec.{leb}
+use borrow.Author.Tests.{leb-true, lt-ltb}
+use Rattle.fields.specs.Back.{Sure}
+use Rattle.fields.specs.Reading.{Reading, done, accepted, run, andThen}
+use Rattle.fields.specs.Value.{number}
+use Rattle.fields.proofs.Laws.{run-bind}
+use Rattle.fields.proofs.Sure.{sure-then, sure-done, sure-here, sure-check}
+use Rattle.records.specs.Format.{text, type, scalarWidth, scalarOf, valueOf}
+use Rattle.records.specs.declared.Dialect.{Dialect}
+use Rattle.records.specs.declared.ArraySpan.{ArraySpan}
+use Rattle.records.specs.declared.Value.the-variants.{Single, Text, Array}
+
+module _ (arrays : ℕ → Reading ArraySpan) (k : Dialect) (o : ℕ) (s : List ℕ) (at : ℕ) where
+  -- a scalar, a text and an array
+  pub value-scalar : (t : ℕ) → 0 < scalarWidth t → run (valueOf arrays k o t) s at ≡ andThen (run (number (scalarWidth t) (k .big)) s at) (λ n q. accepted (Single (scalarOf t n)) q)
+  unfolding valueOf run
+  value-scalar t wide = rw (lt-ltb 0 (scalarWidth t) wide) (run-bind (number (scalarWidth t) (k .big)) (λ n. done (Single (scalarOf t n))) s at)
+
+  pub value-text : run (valueOf arrays k o 8) s at ≡ andThen (run (text k) s at) (λ a q. accepted (Text a) q)
+  unfolding valueOf scalarWidth run
+  value-text = run-bind (text k) (λ a. done (Text a)) s at
+
+  pub value-array : run (valueOf arrays k o 9) s at ≡ andThen (run (arrays o) s at) (λ a q. accepted (Array a) q)
+  unfolding valueOf scalarWidth run
+  value-array = run-bind (arrays o) (λ a. done (Array a)) s at
+
+-- a type that was accepted is one of the thirteen
+sure-type : (k : Dialect) (s : List ℕ) (p : ℕ) → Sure s (type k) p (λ t q. t ≤ 12)
+unfolding type
+sure-type k s p =
+    sure-here _ (sure-then {P = λ n q. Unit {0}} (record { holds = λ n q e. tt }) (λ t q u. sure-check (leb t 12) 8 p _ (λ few. sure-done (leb-true _ _ few))))
+
+pub type-known : (k : Dialect) (s : List ℕ) (at : ℕ) {t q : ℕ} → accepted t q ≡ run (type k) s at → t ≤ 12
+type-known k s at {t} {q} e = sure-type k s at .holds t q e

@@ -1,0 +1,9 @@
+pub mod Texts
+pub mod Types
+pub mod Complement
+pub mod Scalars
+pub mod Items
+pub mod Tensors
+pub mod Low
+pub mod Back
+pub mod Sure

@@ -1,0 +1,104 @@
+-- Which marks the records have: an entry none, and a tensor none above 39, so that ceilings from there on change nothing. Assumes nothing.
+use Prim.Native.Nat.{ℕ, zero, suc, _+_, _^_, _≤_}
+use mathlib.Core.Path.{_≡_, refl, ap}
+use mathlib.Core.List.{List}
+use mathlib.Core.Bool.{Bool, true, false}
+use native.Mathlib.Omega.{arith}
+use lib.Dec.{leb, eqb, ltb}
+use borrow.Author.Tests.{leb-true, leb-false, le-leb, ltb-true}
+use Rattle.fields.specs.Ceilings.{under, Low}
+use Rattle.fields.specs.Reading.{aKind, Reading, run}
+use Rattle.records.specs.Format.{value, lengths, size, textLooking, text, key, type, scalarWidth, valueOf, array, depth, entry, lengthAt, shape, stored, tensor}
+use Rattle.fields.proofs.Ceilings.{low-run, low-bind, low-done, low-refuse, low-here, low-field, low-mark, low-number, low-if, low-checked, low-each}
+use Rattle.kinds.specs.Shape.{greatest, productOf, productsFit, sizeFits}
+use Rattle.kinds.specs.Table.{blockOf, knownKind}
+use Rattle.kinds.proofs.Rows.{past}
+use Rattle.records.specs.declared.Dialect.{Dialect}
+use Rattle.records.specs.declared.Span.{Span}
+use Rattle.records.specs.declared.ArraySpan.{ArraySpan}
+use Rattle.fields.specs.declared.Limits.{Limits}
+use Rattle.kinds.specs.declared.Block.{Block}
+
+-- a known kind is in the table
+kind-cases : (t : ℕ) (b : Bool) → leb t 39 ≡ b → knownKind t ≡ true → t ≤ 39
+kind-cases t true e h = leb-true t 39 e
+kind-cases t false e h = absurd (omega (arith, ltb-true 0 (blockOf t .numbers) h, ap (λ (a : Block). a .numbers) (past t (leb-false t 39 e))))
+
+pub kind-small : (t : ℕ) → knownKind t ≡ true → t ≤ 39
+kind-small t h = kind-cases t (leb t 39) refl h
+
+module _ (l : Limits) (k : Dialect) where
+  low-size : Low l (size k)
+  unfolding size
+  low-size = low-number l _ _
+
+  low-looking : {A : Type 0} (n : ℕ) (f : Span → List ℕ → A) → Low l (textLooking n f k)
+  unfolding textLooking
+  low-looking n f =
+      low-bind l _ _ (low-here l) (λ p. low-bind l _ _ low-size (λ n. low-checked l (leb n (2 ^ 30)) 7 p _ (λ e. low-bind l _ _ (low-here l) (λ q. low-field l _ _ _))))
+
+  pub low-text : Low l (text k)
+  unfolding text
+  low-text = low-looking 0 _
+
+  low-type : Low l (type k)
+  unfolding type
+  low-type = low-bind l _ _ (low-here l) (λ p. low-bind l _ _ (low-number l 4 (k .big)) (λ t. low-checked l (leb t 12) 8 p _ (λ e. low-done l t)))
+
+  low-value-of : (arrays : ℕ → Reading ArraySpan) → ((o : ℕ) → Low l (arrays o)) → (o t : ℕ) → Low l (valueOf arrays k o t)
+  unfolding valueOf
+  low-value-of arrays h o t =
+      low-if l (ltb 0 (scalarWidth t)) _ _ (low-bind l _ _ (low-number l _ _) (λ n. low-done l _))
+      (low-if l (eqb t 8) _ _ (low-bind l _ _ low-text (λ a. low-done l _)) (low-bind l _ _ (h o) (λ a. low-done l _)))
+
+  low-array : (d o : ℕ) → Low l (array d k o)
+  unfolding array
+  low-array zero o = low-refuse l _ 9 o
+  low-array (suc d) o =
+      low-bind l _ _ (low-here l) (λ p. low-bind l _ _ low-type (λ t. low-bind l _ _ low-size (λ n. low-bind l _ _ (low-here l) (λ q.
+      low-bind l _ _ (low-each l _ _ (λ z. low-value-of (array d k) (low-array d) p t) n tt) (λ items. low-done l _)))))
+
+  pub low-entry : (cap : ℕ) → Low l (entry k cap)
+  unfolding entry key value
+  low-entry cap =
+      low-bind l _ _ (low-looking 18 _) (λ name. low-bind l _ _ (low-bind l _ _ (low-here l) (λ p. low-bind l _ _ low-type (λ t. low-value-of (array depth k) (low-array depth) p t)))
+      (λ v. low-done l _))
+
+  -- so no ceiling changes what an entry is
+  pub under-entry : (cap : ℕ) (s : List ℕ) (p : ℕ) → run (under l (entry k cap)) s p ≡ run (entry k cap) s p
+  under-entry cap s p = low-run l (entry k cap) (low-entry cap) s p
+
+  low-length : (n i : ℕ) → Low l (lengthAt k n i)
+  unfolding lengthAt
+  low-length n i = low-if l (ltb i n) _ _ (low-number l 8 (k .big)) (low-done l 1)
+
+  pub low-shape : Low l (shape k)
+  unfolding shape
+  low-shape =
+      low-bind l _ _ (low-here l) (λ p. low-bind l _ _ (low-number l 4 (k .big)) (λ n. low-checked l (leb n 4) 10 p _ (λ e.
+      low-bind l _ _ (low-length n 0) (λ a. low-bind l _ _ (low-length n 1) (λ b. low-bind l _ _ (low-length n 2) (λ c. low-bind l _ _ (low-length n 3) (λ d. low-done l _)))))))
+
+  -- nor what a name or a shape is
+  pub under-text : (s : List ℕ) (p : ℕ) → run (under l (text k)) s p ≡ run (text k) s p
+  under-text s p = low-run l (text k) low-text s p
+
+  pub under-shape : (s : List ℕ) (p : ℕ) → run (under l (shape k)) s p ≡ run (shape k) s p
+  under-shape s p = low-run l (shape k) low-shape s p
+
+module _ (l : Limits) (high : 39 ≤ l .kinds) (k : Dialect) where
+  low-stored : Low l (stored k)
+  unfolding stored
+  low-stored =
+      low-bind l _ _ (low-here l) (λ p. low-bind l _ _ (low-number l 4 (k .big)) (λ t. low-bind l _ _ (low-number l 8 (k .big)) (λ o.
+      low-checked l (knownKind t) 11 p _ (λ e. low-bind l _ _ (low-mark l aKind t p (le-leb t (l .kinds) (omega (arith, kind-small t e)))) (λ u. low-done l _)))))
+
+  pub low-tensor : (total : ℕ) → Low l (tensor k total)
+  unfolding tensor
+  low-tensor total =
+      low-bind l _ _ (low-here l) (λ p. low-bind l _ _ (low-text l k) (λ name. low-bind l _ _ (low-shape l k) (λ x. low-bind l _ _ low-stored (λ y.
+      low-checked l (productsFit (lengths x)) 13 p _ (λ e. low-checked l (sizeFits (lengths x) (y .kind)) 14 p _ (λ e.
+      low-checked l (leb (total + productOf (lengths x)) greatest) 15 p _ (λ e. low-done l _)))))))
+
+  -- so no ceiling from 39 on changes what a tensor is
+  pub under-tensor : (total : ℕ) (s : List ℕ) (p : ℕ) → run (under l (tensor k total)) s p ≡ run (tensor k total) s p
+  under-tensor total s p = low-run l (tensor k total) (low-tensor total) s p

@@ -1,0 +1,4 @@
+pub mod Format
+pub mod Answers
+pub mod Rows
+pub mod Contents
