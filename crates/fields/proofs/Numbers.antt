@@ -1,27 +1,20 @@
 -- A number at a place, at every width and in both orders: the field, and its bytes taken one at a time, the greatest first. Assumes nothing.
-use Prim.Native.Nat.{ℕ, zero, suc, _+_, _-_, _*_, _^_, _≤_, _<_}
+use Prim.Native.Nat.{ℕ, zero, suc, _+_, _*_, _^_, _≤_, _<_}
 use mathlib.Core.Path.{_≡_, refl, sym, ap, _∙_}
-use mathlib.Core.List.{List, [], _∷_, reverse, reverse-cons}
+use mathlib.Core.List.{List, [], _∷_, _++_, reverse, reverse-append}
 use mathlib.Core.Bool.{Bool, true, false}
 use native.Mathlib.Omega.{arith}
-use native.Mathlib.Nat.{pow-suc, pow-le-pow-right, not-suc-le-zero}
-use lib.ListN.{length, take, drop, getD, length-drop, length-reverse, List·getD-append, drop-of-length-le}
-use lib.Seq.{drop-cons, take-take, length-take-le, getD-at, getD-take, getD-drop}
+use native.Mathlib.Numerals.{add-one}
+use native.Mathlib.Nat.{mul-suc, mul-le-mul-right, add-suc, mul-assoc, pow-succ', mul-le-mul-left}
+use lib.ListN.{length, take, drop, getD, length-drop, length-reverse}
+use lib.Seq.{drop-cons, drop-drop, take-add, take-take, length-take-le}
 use lib.Dec.{leb}
 use borrow.Author.Tests.{leb-true, le-leb, lt-leb}
 use Rattle.fields.specs.Choice.{if_then_else_}
 use Rattle.fields.specs.Reading.{accepted, refused, run}
-use Rattle.fields.specs.Value.{widthOf, leValue, turn, value, number}
-use Rattle.fields.proofs.Bytes.{length-turn, spot}
-use Rattle.fields.specs.declared.Width.{Width}
+use Rattle.fields.specs.Value.{leValue, value, halves, number}
+use Rattle.fields.proofs.Pieces.{small}
 use Rattle.fields.specs.declared.Width.the-variants.{One, Two, Four, Eight}
-
--- no width is above eight
-pub width-small : (w : Width) → widthOf w ≤ 8
-width-small One = omega arith
-width-small Two = omega arith
-width-small Four = omega arith
-width-small Eight = omega arith
 
 -- a number that is wholly there, and one that is not
 pub number-there : (w : ℕ) (big : Bool) (s : List ℕ) (at : ℕ) → at + w ≤ length s → run (number w big) s at ≡ accepted (value big (take w (drop at s))) (at + w)
@@ -53,59 +46,53 @@ pub number-refused : (w : ℕ) (big : Bool) (s : List ℕ) (at : ℕ) {n p : ℕ
 unfolding run number
 number-refused w big s at {n} {p} e = sym (refused-cases s at w _ n p (leb (at + w) (length s)) e)
 
--- the bytes, the least first
-pub digits : Bool → List ℕ → ℕ → ℕ → List ℕ
-digits big s at w = turn big (take w (drop at s))
+-- w bytes of s, the first at `at + i`
+abbrev pub elems : List ℕ → ℕ → ℕ → ℕ → List ℕ
+elems s at i zero = []
+elems s at i (suc w) = getD s (at + i) 0 ∷ elems s at (suc i) w
 
-getD-reverse : (m : List ℕ) (n : ℕ) → n < length m → getD (reverse m) (length m - 1 - n) 0 ≡ getD m n 0
-getD-reverse [] n h = absurd (not-suc-le-zero h)
-getD-reverse (x ∷ m) zero h =
-    let e : suc (length m) - 1 - 0 ≡ length m = omega arith in
-    rw (e, reverse-cons x m, getD-at (reverse m) x [] 0 (length m) (length-reverse m))
-getD-reverse (x ∷ m) (suc n) h =
-    let e : suc (length m) - 1 - suc n ≡ length m - 1 - n = omega arith in
-    rw (e, reverse-cons x m, List·getD-append (reverse m) (x ∷ []) 0 (length m - 1 - n) (omega (arith, length-reverse m))) (getD-reverse m n (omega arith))
+bytes-from : (s : List ℕ) (at i w : ℕ) → at + i + w ≤ length s → take w (drop (at + i) s) ≡ elems s at i w
+bytes-from s at i zero h = refl
+bytes-from s at i (suc w) h =
+    rw (drop-cons s (at + i) 0 (omega arith)) (ap (λ l. getD s (at + i) 0 ∷ l) (rw (← add-suc at i) (bytes-from s at (suc i) w (omega arith))))
 
-pub length-digits : (big : Bool) (s : List ℕ) (at w : ℕ) → at + w ≤ length s → length (digits big s at w) ≡ w
-unfolding digits
-length-digits big s at w h = length-turn big (take w (drop at s)) ∙ length-take-le w (drop at s) (omega (arith, length-drop at s))
+-- a field of any width, byte by byte
+pub field-bytes : (s : List ℕ) (at w : ℕ) → at + suc w ≤ length s → take (suc w) (drop at s) ≡ getD s at 0 ∷ elems s at 1 w
+field-bytes s at w h =
+    rw (drop-cons s at 0 (omega arith)) (ap (λ l. getD s at 0 ∷ l) (rw (← add-one at) (bytes-from s at 1 w (omega arith))))
 
-pub digit-at : (big : Bool) (s : List ℕ) (at w n : ℕ) → at + w ≤ length s → n < w → getD (digits big s at w) (w - 1 - n) 0 ≡ getD s (at + spot big w n) 0
-unfolding digits spot
-digit-at true s at w n h l =
-    let k : length (take w (drop at s)) ≡ w = length-take-le w (drop at s) (omega (arith, length-drop at s)) in
-    ap (λ j. getD (reverse (take w (drop at s))) (j - 1 - n) 0) (sym k) ∙ getD-reverse (take w (drop at s)) n (omega arith) ∙ getD-take w (drop at s) n 0 l ∙ getD-drop at s n 0
-digit-at false s at w n h l = getD-take w (drop at s) (w - 1 - n) 0 (omega arith) ∙ getD-drop at s (w - 1 - n) 0
+-- of one byte both orders are the same
+pub one-byte : (big : Bool) (s : List ℕ) (at : ℕ) → at + 1 ≤ length s → value big (take 1 (drop at s)) ≡ getD s at 0
+one-byte true s at h = ap (value true) (field-bytes s at 0 h) ∙ omega arith
+one-byte false s at h = ap (value false) (field-bytes s at 0 h) ∙ omega arith
 
--- the value of the n greatest
-pub taken : Bool → List ℕ → ℕ → ℕ → ℕ → ℕ
-taken big s at w n = leValue (drop (w - n) (digits big s at w))
+-- two halves below a unit of at most 2 ^ 32 make a number of 64 bits
+pub halves-fit : (u a b : ℕ) → a < u → b < u → u ≤ 2 ^ 32 → a + u * b < 2 ^ 64
+halves-fit u a b low high small =
+    let i : u * suc b ≡ u * b + u = mul-suc u b in
+    let j : u * suc b ≤ u * 2 ^ 32 = mul-le-mul-left u (omega arith) in
+    let k : u * 2 ^ 32 ≤ 2 ^ 32 * 2 ^ 32 = mul-le-mul-right (2 ^ 32) small in
+    omega arith
 
-pub taken-none : (big : Bool) (s : List ℕ) (at w : ℕ) → at + w ≤ length s → 0 ≡ taken big s at w 0
-unfolding taken
-taken-none big s at w h = rw (drop-of-length-le (digits big s at w) {i = w - 0} (omega (arith, length-digits big s at w h)))
+-- a number of two parts
+pub le-append : (xs ys : List ℕ) → leValue (xs ++ ys) ≡ leValue xs + 256 ^ length xs * leValue ys
+le-append [] ys = omega arith
+le-append (x ∷ xs) ys = rw (pow-succ' 256 (length xs), mul-assoc 256, le-append xs ys) (omega arith)
 
-pub taken-more : (big : Bool) (s : List ℕ) (at w n : ℕ) → at + w ≤ length s → n < w
-    → taken big s at w n * 256 + getD s (at + spot big w n) 0 ≡ taken big s at w (n + 1)
-unfolding taken
-taken-more big s at w n h l =
-    let d : List ℕ = digits big s at w in
-    let e : w - (n + 1) ≡ w - 1 - n = omega arith in
-    let e' : w - n ≡ suc (w - 1 - n) = omega arith in
-    let c : drop (w - 1 - n) d ≡ getD d (w - 1 - n) 0 ∷ drop (suc (w - 1 - n)) d = drop-cons d (w - 1 - n) 0 (omega (arith, length-digits big s at w h)) in
-    rw (e, e', c, digit-at big s at w n h l) (omega arith)
+-- a field of w and w bytes is its two parts, at any w
+module _ (s : List ℕ) (at w : ℕ) (fits : at + w + w ≤ length s) where
+  pub parts : take (w + w) (drop at s) ≡ take w (drop at s) ++ take w (drop (at + w) s)
+  parts = take-add w w (drop at s) ∙ rw drop-drop
 
-pub taken-all : (big : Bool) (s : List ℕ) (at w : ℕ) → taken big s at w w ≡ value big (take w (drop at s))
-unfolding taken digits
-taken-all big s at w =
-    let e : w - w ≡ 0 = omega arith in
-    rw e
+  part-length : (k : ℕ) → k ≤ at + w → length (take w (drop k s)) ≡ w
+  part-length k h = length-take-le w (drop k s) (rw length-drop (omega arith))
 
--- it stays below a power, and fits while there are fewer than eight
-pub grows : (x b n : ℕ) → x < 256 ^ n → b < 256 → x * 256 + b < 256 ^ (n + 1)
-grows x b n h k =
-    let e : n + 1 ≡ suc n = omega arith in
-    rw e (omega (arith, pow-suc 256 n))
-
-pub small : (x n : ℕ) → x < 256 ^ n → n < 8 → x < 2 ^ 56
-small x n h k = omega (arith, pow-le-pow-right {n = 256} (omega arith) {i = n} {j = 7} (omega arith))
+  -- its value is that of the two, in either order
+  pub value-halves : (big : Bool) → value big (take (w + w) (drop at s)) ≡ halves big (256 ^ w) (value big (take w (drop at s))) (value big (take w (drop (at + w) s)))
+  value-halves false =
+      ap leValue parts ∙ le-append (take w (drop at s)) (take w (drop (at + w) s)) ∙
+      ap (λ n. leValue (take w (drop at s)) + 256 ^ n * leValue (take w (drop (at + w) s))) (part-length at (omega arith))
+  value-halves true =
+      ap (λ l. leValue (reverse l)) parts ∙ ap leValue (reverse-append (take w (drop at s)) (take w (drop (at + w) s))) ∙
+      le-append (reverse (take w (drop (at + w) s))) (reverse (take w (drop at s))) ∙
+      ap (λ n. leValue (reverse (take w (drop (at + w) s))) + 256 ^ n * leValue (reverse (take w (drop at s)))) (length-reverse (take w (drop (at + w) s)) ∙ part-length (at + w) (omega arith))

@@ -132,3 +132,7 @@ along-map {f = f} Q g view h (a ∷ l) z all =
 pub map-through : {A C D : Type 0} {P : A → Type 0} (view : A → D) (g : C → D) (f : A → C) → ((a : A) → P a → view a ≡ g (f a)) → (l : List A) → All P l → map view l ≡ map g (map f l)
 map-through view g f h [] all = refl
 map-through view g f h (a ∷ l) all = rw (h a (all .0), map-through view g f h l (all .1))
+
+-- of what nothing is asked everything is sure
+pub whatever : {A : Type 0} {s : List ℕ} {m : Reading A} {p : ℕ} → Sure s m p (λ a q. Unit {0})
+whatever = record { holds = λ a q e. tt }

@@ -29,6 +29,11 @@ turn false bs = bs
 abbrev pub value : Bool → List ℕ → ℕ
 value big bs = leValue (turn big bs)
 
+-- a number of two halves, of which each is below unit
+abbrev pub halves : Bool → ℕ → ℕ → ℕ → ℕ
+halves true unit first second = second + unit * first
+halves false unit first second = first + unit * second
+
 -- a number of w bytes
 unfoldable pub number : ℕ → Bool → Reading ℕ
 number w big = next w (λ bs. done (value big bs))

@@ -1,12 +1,13 @@
 // Numbers and bytes at a place of a slice, in either byte order: read where they are wholly there, and written into what the caller lends.
 //
-// Every width is read by one function and written by one, so that one law about each holds for all of them. Where the width and the order are
-// known, the compiler turns the loop over the bytes into a single load or store.
+// `number_at` reads every width, and `put_number` writes every width, in either order. With a known width and order the sums of bytes that it is made
+// of compile to one load (and a swap).
 ghost use mathlib.Core.Path.{_≡_};
-ghost use Prim.Native.Nat.{_+_, _≤_};
+ghost use mathlib.Core.List.{[], _∷_};
+ghost use Prim.Native.Nat.{_+_, _≤_, _<_, _^_};
 ghost use lib.ListN.{length, take, drop, replicate};
 ghost use Rattle.fields.specs.Reading.{run};
-ghost use Rattle.fields.specs.Value.{widthOf, value, number, asNumber};
+ghost use Rattle.fields.specs.Value.{widthOf, leValue, value, halves, number, asNumber};
 ghost use Rattle.fields.specs.Bytes.{bytesOf, Wrote};
 
 // The widths that a number has.
@@ -41,19 +42,52 @@ pub fn bytes_in(width: Width) -> usize
     }
 }
 
-// The number of the w bytes from at, all of which are there.
-fn value_in(s: &[u8], at: usize, w: usize, big: bool) -> u64
-    requires { ⌜ (w ≤ 8) × (at + w ≤ length (now s)) ⌝ }
-    ensures { λ r. ⌜ r ≡ value big (take w (drop at (now (s .entry)))) ⌝ }
+// Four bytes as a number, the little end first: a sum that the compiler turns into one load.
+fn four(a: u8, b: u8, c: u8, d: u8) -> u32
+    ensures { λ r. ⌜ r ≡ leValue (a ∷ b ∷ c ∷ d ∷ []) ⌝ }
 {
-    let mut total: u64 = 0;
-    let mut i: usize = 0;
-    while i < w {
-        let from = if big { at + i } else { at + (w - 1 - i) };
-        total = total * 256 + s[from] as u64;
-        i += 1;
+    (a as u32) + 256 * ((b as u32) + 256 * ((c as u32) + 256 * (d as u32)))
+}
+
+// The number of four bytes that are there.
+fn four_in(s: &[u8], at: usize, big: bool) -> u32
+    requires { ⌜ at + 4 ≤ length (now s) ⌝ }
+    ensures { λ r. ⌜ r ≡ value big (take 4 (drop at (now (s .entry)))) ⌝ }
+{
+    if big {
+        four(s[at + 3], s[at + 2], s[at + 1], s[at])
+    } else {
+        four(s[at], s[at + 1], s[at + 2], s[at + 3])
     }
-    total
+}
+
+// The number of two halves, each of which is below unit.
+fn joined(first: u64, second: u64, unit: u64, big: bool) -> u64
+    requires { ⌜ (first < unit) × (second < unit) × (unit ≤ 2 ^ 32) ⌝ }
+    ensures { λ r. ⌜ r ≡ halves big unit first second ⌝ }
+{
+    if big {
+        second + unit * first
+    } else {
+        first + unit * second
+    }
+}
+
+// The number of a field that is wholly there.
+fn value_in(s: &[u8], at: usize, width: Width, big: bool) -> u64
+    requires { ⌜ at + widthOf width ≤ length (now s) ⌝ }
+    ensures { λ r. ⌜ r ≡ value big (take (widthOf width) (drop at (now (s .entry)))) ⌝ }
+{
+    match width {
+        Width::One => s[at] as u64,
+        Width::Two => joined(s[at] as u64, s[at + 1] as u64, 256, big),
+        Width::Four => four_in(s, at, big) as u64,
+        Width::Eight => {
+            let first = four_in(s, at, big) as u64;
+            let second = four_in(s, at + 4, big) as u64;
+            joined(first, second, 4294967296, big)
+        }
+    }
 }
 
 // A number at a place, where it is wholly there.
@@ -68,7 +102,7 @@ pub fn number_at(s: &[u8], at: usize, width: Width, big: bool) -> Number
         return Number::Refused { why: 1, place: at };
     }
     Number::Value {
-        value: value_in(s, at, w, big),
+        value: value_in(s, at, width, big),
         next: at + w,
     }
 }

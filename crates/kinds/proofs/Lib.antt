@@ -1,4 +1,5 @@
 pub mod Rows
 pub mod Products
 pub mod Measures
+pub mod Answers
 pub mod Examples

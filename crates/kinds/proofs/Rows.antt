@@ -1,14 +1,15 @@
 -- The table by its columns: the sizes are one list, and the numbers are alike over a range of kinds, as a test shows that the checker computes row after row.
 -- Assumes nothing.
-use mathlib.Core.Path.{_≡_, sym, _∙_}
+use mathlib.Core.Path.{_≡_, refl, sym, _∙_}
 use mathlib.Core.Bool.{Bool, true, false}
 use mathlib.Core.List.{List, map}
 use Prim.Native.Nat.{ℕ, zero, suc, _+_, _-_, _≤_, _<_}
 use native.Mathlib.Omega.{arith}
-use lib.Dec.{T, leb, eqb, leb→le, eqb→eq}
+use lib.Dec.{T, leb, ltb, eqb, leb→le, eqb→eq}
 use lib.ListN.{length, getD, List·getD-eq-default, List·getD-map}
+use borrow.Author.Tests.{ltb-true, ltb-false}
 use Rattle.kinds.specs.declared.Block.{Block}
-use Rattle.kinds.specs.Table.{block, noKind, kindTable, blockOf}
+use Rattle.kinds.specs.Table.{block, noKind, kindTable, blockOf, knownKind, writtenKind}
 
 abbrev both : Bool → Bool → Bool
 both true b = b
@@ -66,3 +67,28 @@ block-is a e f = rw (e, f)
 pub past : (k : ℕ) → length kindTable ≤ k → noKind ≡ blockOf k
 unfolding blockOf
 past k h = sym (List·getD-eq-default kindTable noKind h)
+
+-- a kind that is written is known: row after row, and past the table none is written
+abbrev follows : Bool → Bool → Bool
+follows true b = b
+follows false b = true
+
+followed : (a b : Bool) → T (follows a b) → a ≡ true → b ≡ true
+followed true true t e = refl
+followed true false t e = absurd t
+followed false b t e = let z : _≡_ {A = ℕ} 0 1 = cc in absurd (omega arith)
+
+written-in-table : (k : ℕ) → k < length kindTable → writtenKind k ≡ true → knownKind k ≡ true
+unfolding blockOf
+written-in-table k h = followed (writtenKind k) (knownKind k) (at (λ n. follows (writtenKind n) (knownKind n)) (length kindTable) tt k h)
+
+written-by : (t : Bool) (k : ℕ) → ltb k (length kindTable) ≡ t → writtenKind k ≡ true → knownKind k ≡ true
+written-by true k i e = written-in-table k (ltb-true k (length kindTable) i) e
+written-by false k i e =
+    let none = past k (ltb-false k (length kindTable) i) in
+    let z : _≡_ {A = Bool} false true = rw (← none) at e in
+    let o : _≡_ {A = ℕ} 0 1 = cc in
+    absurd (omega arith)
+
+pub written-known : (k : ℕ) → writtenKind k ≡ true → knownKind k ≡ true
+written-known k e = written-by (ltb k (length kindTable)) k refl e

@@ -8,7 +8,7 @@ use Rattle.fields.specs.Back.{Sure}
 use Rattle.fields.specs.Reading.{Reading, done, accepted, run, andThen}
 use Rattle.fields.specs.Value.{number}
 use Rattle.fields.proofs.Laws.{run-bind}
-use Rattle.fields.proofs.Sure.{sure-then, sure-done, sure-here, sure-check}
+use Rattle.fields.proofs.Sure.{sure-then, sure-done, sure-here, sure-check, whatever}
 use Rattle.records.specs.Format.{text, type, scalarWidth, scalarOf, valueOf}
 use Rattle.records.specs.declared.Dialect.{Dialect}
 use Rattle.records.specs.declared.ArraySpan.{ArraySpan}
@@ -32,7 +32,7 @@ module _ (arrays : ℕ → Reading ArraySpan) (k : Dialect) (o : ℕ) (s : List 
 sure-type : (k : Dialect) (s : List ℕ) (p : ℕ) → Sure s (type k) p (λ t q. t ≤ 12)
 unfolding type
 sure-type k s p =
-    sure-here _ (sure-then {P = λ n q. Unit {0}} (record { holds = λ n q e. tt }) (λ t q u. sure-check (leb t 12) 8 p _ (λ few. sure-done (leb-true _ _ few))))
+    sure-here _ (sure-then whatever (λ t q u. sure-check (leb t 12) 8 p _ (λ few. sure-done (leb-true _ _ few))))
 
 pub type-known : (k : Dialect) (s : List ℕ) (at : ℕ) {t q : ℕ} → accepted t q ≡ run (type k) s at → t ≤ 12
 type-known k s at {t} {q} e = sure-type k s at .holds t q e

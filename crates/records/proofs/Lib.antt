@@ -7,3 +7,4 @@ pub mod Tensors
 pub mod Low
 pub mod Back
 pub mod Sure
+pub mod Examples

@@ -14,7 +14,7 @@ use Rattle.fields.specs.Choice.{if_then_else_}
 use Rattle.fields.specs.Reading.{Reading, done, place, field, Answer, accepted, refused, run, _>>=_, _>>_, here, check, andThen}
 use Rattle.fields.proofs.Laws.{run-bind}
 use Rattle.fields.proofs.Numbers.{number-within}
-use Rattle.fields.proofs.Sure.{sure-then, sure-here, sure-check, sure-field}
+use Rattle.fields.proofs.Sure.{sure-then, sure-here, sure-check, sure-field, whatever}
 use Rattle.records.specs.Format.{sizeWidth, size, textLooking, text, begins, isWord}
 use Rattle.records.specs.declared.Dialect.{Dialect}
 use Rattle.records.specs.declared.Span.{Span}
@@ -32,7 +32,7 @@ pub record Inside (s : List ℕ) (a : Span) (q : ℕ) : Type 0 where
 sure-text : (k : Dialect) (s : List ℕ) (p : ℕ) → Sure s (text k) p (Inside s)
 unfolding text textLooking
 sure-text k s p =
-    sure-here _ (sure-then {P = λ n q. Unit {0}} (record { holds = λ n q e. tt }) (λ n q u. sure-check (leb n (2 ^ 30)) 7 p _ (λ short. sure-here _ (sure-field (λ there. record { ends = refl; there = there })))))
+    sure-here _ (sure-then whatever (λ n q u. sure-check (leb n (2 ^ 30)) 7 p _ (λ short. sure-here _ (sure-field (λ there. record { ends = refl; there = there })))))
 
 pub text-inside : (k : Dialect) (s : List ℕ) (at : ℕ) {a : Span} {q : ℕ} → accepted a q ≡ run (text k) s at → Inside s a q
 text-inside k s at {a} {q} e = sure-text k s at .holds a q e
@@ -90,7 +90,12 @@ begins-cases : (b c : Bool) → c ≡ false → (if b then c else false) ≡ fal
 begins-cases true c e = e
 begins-cases false c e = refl
 
--- a shorter text does not
+-- every text starts with the word of no bytes
+pub begins-none : (w text : List ℕ) → length w ≡ 0 → begins w text ≡ true
+begins-none [] text e = refl
+begins-none (x ∷ w) text e = absurd (omega arith)
+
+-- a shorter text does not start with a word
 pub begins-short : (w text : List ℕ) → length text < length w → begins w text ≡ false
 begins-short [] text h = absurd (omega arith)
 begins-short (x ∷ w) [] h = refl

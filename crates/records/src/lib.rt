@@ -185,13 +185,22 @@ pub fn read_string(s: &[u8], at: usize, dialect: Dialect) -> TextRead
     }
 }
 
-// Whether the bytes from a place on begin with those of word.
-fn begins_at(s: &[u8], place: usize, word: &[u8]) -> bool
-    requires { ⌜ place + length (now word) ≤ length (now s) ⌝ }
+// Whether the bytes from a place on begin with those of word. Where there are fewer, they don't.
+pub fn begins_at(s: &[u8], place: usize, word: &[u8]) -> bool
     ensures { λ r. ⌜ r ≡ format.begins (now (word .entry)) (drop place (now (s .entry))) ⌝ }
 {
+    let len = word.len();
+    if len == 0 {
+        return true;
+    }
+    if s.len() < len {
+        return false;
+    }
+    if s.len() - len < place {
+        return false;
+    }
     let mut i: usize = 0;
-    while i < word.len() {
+    while i < len {
         if s[place + i] != word[i] {
             return false;
         }
@@ -225,7 +234,7 @@ fn is_tokenizer(s: &[u8], span: Span) -> bool
 }
 
 // A key, compared where it stands.
-pub fn read_key(s: &[u8], at: usize, dialect: Dialect) -> KeyRead
+fn read_key(s: &[u8], at: usize, dialect: Dialect) -> KeyRead
     ensures { λ r. ⌜ asKey r ≡ run (format.key dialect) (now (s .entry)) at ⌝ }
 {
     match read_string(s, at, dialect) {
@@ -246,7 +255,7 @@ pub fn read_key(s: &[u8], at: usize, dialect: Dialect) -> KeyRead
 }
 
 // A value's type, or an item's.
-pub fn read_type(s: &[u8], at: usize, dialect: Dialect) -> Number
+fn read_type(s: &[u8], at: usize, dialect: Dialect) -> Number
     ensures { λ r. ⌜ asNumber r ≡ run (format.type dialect) (now (s .entry)) at ⌝ }
 {
     let Number::Value { value, next } = fields::number_at(s, at, Width::Four, dialect.big) else {
@@ -289,7 +298,7 @@ fn signed32(bits: u64) -> i32
 }
 
 // The scalar of a type that bits stand for. Every type that is no other scalar's is read as the last one's.
-pub fn scalar_of(t: u64, bits: u64) -> Scalar
+fn scalar_of(t: u64, bits: u64) -> Scalar
     ensures { λ r. ⌜ r ≡ format.scalarOf t bits ⌝ }
 {
     match t {
@@ -497,7 +506,7 @@ fn read_length(s: &[u8], at: usize, dialect: Dialect, n: u64, i: u64) -> Number
 }
 
 // The count of dimensions, and four lengths.
-pub fn read_shape(s: &[u8], at: usize, dialect: Dialect) -> ShapeRead
+fn read_shape(s: &[u8], at: usize, dialect: Dialect) -> ShapeRead
     ensures { λ r. ⌜ asShape r ≡ run (format.shape dialect) (now (s .entry)) at ⌝ }
 {
     let Number::Value { value: n, next: p } = fields::number_at(s, at, Width::Four, dialect.big)
@@ -532,7 +541,7 @@ pub fn read_shape(s: &[u8], at: usize, dialect: Dialect) -> ShapeRead
 }
 
 // The kind and the offset; the kind is judged once both are read.
-pub fn read_stored(s: &[u8], at: usize, dialect: Dialect, limits: Limits) -> StoredRead
+fn read_stored(s: &[u8], at: usize, dialect: Dialect, limits: Limits) -> StoredRead
     ensures { λ r. ⌜ asStored r ≡ run (under limits (format.stored dialect)) (now (s .entry)) at ⌝ }
 {
     let Number::Value {

@@ -8,7 +8,7 @@ use denote.Ref.{now}
 use lib.ListN.{take, drop}
 use Rattle.fields.specs.Reading.{accepted}
 use Rattle.fields.specs.Value.{widthOf, value}
-use Rattle.fields.proofs.Numbers.{width-small, number-there, number-missing}
+use Rattle.fields.proofs.Numbers.{number-there, number-missing}
 use Rattle.fields.proofs.number_at.Statement.{statement}
 use Rattle.fields.proofs.number_at.Tie as tie
 
@@ -22,14 +22,11 @@ returns-2 c =
     let a = c .before .before .before .before .args in
     rw (number-missing (widthOf (a .width)) (a .big) (now (a .s)) (a .at) (omega arith))
 
-value-in-requires : tie.Need-value-in-requires
-value-in-requires c κs = (omega (arith, width-small (c .before .before .before .before .args .width)), omega arith)
-
 returns-3 : tie.Need-returns-3
 returns-3 c =
     let a = c .before .before .before .before .before .args in
-    rw (number-there (widthOf (a .width)) (a .big) (now (a .s)) (a .at) (omega arith), ← c .before .before .before .bytes-in .ensures)
-    (ap (λ v. accepted v (a .at + c .before .before .before .bytes-in .result)) (c .value-in .ensures))
+    rw (number-there (widthOf (a .width)) (a .big) (now (a .s)) (a .at) (omega arith), c .before .before .before .bytes-in .ensures)
+    (ap (λ v. accepted v (a .at + widthOf (a .width))) (c .value-in .ensures))
 
 pub number-at-spec : {M : Type 1} → statement M
 number-at-spec =
@@ -39,6 +36,6 @@ number-at-spec =
     returns
     (λ c. search needs)
     returns-2
-    value-in-requires
+    (λ c κs. search needs)
     (λ c. search needs)
     returns-3)

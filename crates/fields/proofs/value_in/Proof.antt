@@ -1,90 +1,105 @@
--- `fields::value_in` meets its contract. The invariant: the total is what the i greatest bytes stand for, and is below 256 ^ i.
--- Assumes nothing.
-use mathlib.Core.Path.{_≡_, ap, _∙_}
-use mathlib.Core.Logic.{⊎-elim}
-use Prim.Native.Nat.{_+_, _-_, _*_, _^_, _≤_, _<_}
+-- `fields::value_in` meets its contract: one byte, four of them, or two halves of one or of four. Assumes nothing.
+use borrow.Author.Needs.{needs}
+use Prim.Native.Nat.{_+_, _≤_}
+use mathlib.Core.Path.{_≡_, sym, ap, _∙_}
 use native.Mathlib.Omega.{arith}
-use lib.ListN.{length, getD}
-use Rattle.fields.proofs.Bytes.{spot, spot-big, spot-little}
-use Rattle.fields.proofs.Numbers.{taken, taken-none, taken-more, taken-all, grows, small}
+use denote.Ref.{now}
+use lib.ListN.{length}
+use Rattle.fields.specs.Value.{widthOf, halves}
+use Rattle.fields.proofs.Numbers.{one-byte, value-halves}
 use Rattle.fields.proofs.value_in.Statement.{statement}
 use Rattle.fields.proofs.value_in.Tie as tie
 
-abbrev Inv-loop : tie.InvT-loop
-Inv-loop s at w big total₀ i₀ total i = (i ≤ w) × (total < 256 ^ i) × (total ≡ taken big s at w i)
+-- the field is there, at each width
+one-there : (c : tie.After-enum-told) → let a = c .before .before .before .args in a .at + 1 ≤ length (now (a .s))
+one-there c = omega (arith, ap widthOf (c .enum-told .given .1), c .before .before .before .pre)
 
-abbrev μ-loop : tie.MeasureT-loop
-μ-loop s at w big total₀ i₀ total i = w - i
+two-there : (c : tie.After-enum-told2) → let a = c .before .before .before .args in a .at + 1 + 1 ≤ length (now (a .s))
+two-there c = omega (arith, ap widthOf (c .enum-told2 .given .1), c .before .before .before .pre)
 
-loop-holds : tie.Need-loop-holds Inv-loop μ-loop
-loop-holds c = (omega arith, omega arith, taken-none _ _ _ _ (c .pre .1))
+eight-there : (c : tie.After-enum-told4) → let a = c .before .before .before .args in a .at + 4 + 4 ≤ length (now (a .s))
+eight-there c = omega (arith, ap widthOf (c .enum-told4 .given .1), c .before .before .before .pre)
 
--- where the byte is read
-read-from : (c : tie.Joined1 Inv-loop μ-loop) →
-    let a = c .before .before .before .args in
-    c .if1 .from ≡ a .at + spot (a .big) (a .w) (c .before .before .loop .i)
-read-from c =
-    let a = c .before .before .before .args in
-    let l = c .before .before .loop in
-    ⊎-elim
-    (λ w. w .1 ∙ ap (λ j. a .at + j) (spot-big (a .w) (l .i) (w .0 .taken)))
-    (λ w. w .1 ∙ ap (λ j. a .at + j) (spot-little (a .w) (l .i) (w .0 .left)))
-    (c .if1 .came)
+shared-slice-read-result : tie.Need-shared-slice-read-result
+shared-slice-read-result c = omega (arith, one-there (c .before))
 
-within : (c : tie.Joined1 Inv-loop μ-loop) → c .if1 .from < length (c .before .before .before .args .s .now)
-within c = ⊎-elim (λ w. omega arith) (λ w. omega arith) (c .if1 .came)
+cast-result : tie.Need-cast-result
+cast-result c = omega (arith, c .shared-slice-known2 .given (c .before .before .before .before .args .at))
 
-mul-total : tie.Need-mul-total Inv-loop μ-loop
-mul-total c =
-    let l = c .before .before .loop in
-    omega (arith, small (l .total) (l .i) (l .inv .1) (omega arith))
+shared-slice-read-joined : tie.Need-shared-slice-read-joined
+shared-slice-read-joined c = omega (arith, two-there (c .before))
 
-shared-slice-read-total : tie.Need-shared-slice-read-total Inv-loop μ-loop
-shared-slice-read-total c = within (c .before)
+cast-joined : tie.Need-cast-joined
+cast-joined c = omega (arith, c .shared-slice-known3 .given (c .before .before .before .before .args .at))
 
-cast-total : tie.Need-cast-total Inv-loop μ-loop
-cast-total c = omega (arith, c .shared-slice-known .given (c .before .if1 .from))
+shared-slice-read-joined-2 : tie.Need-shared-slice-read-joined-2
+shared-slice-read-joined-2 c = omega (arith, two-there (c .before .before))
 
-add-total : tie.Need-add-total Inv-loop μ-loop
-add-total c =
-    let l = c .before .before .before .loop in
-    omega (arith, c .shared-slice-known .given (c .before .if1 .from), small (l .total) (l .i) (l .inv .1) (omega arith))
+cast-joined-2 : tie.Need-cast-joined-2
+cast-joined-2 c = omega (arith, c .shared-slice-known4 .given (c .before .before .before .before .before .args .at + 1))
 
-loop-again : tie.Need-loop-again Inv-loop μ-loop
-loop-again c =
-    let l = c .before .before .before .loop in
-    let a = c .before .before .before .before .args in
-    let byte = c .shared-slice-known .given (c .before .if1 .from) in (
-      omega arith,
-      grows (l .total) _ (l .i) (l .inv .1) (omega arith),
-      ap (λ x. x * 256 + getD (a .s .now) (c .before .if1 .from) 0) (l .inv .2)
-          ∙ ap (λ j. taken (a .big) (a .s .now) (a .at) (a .w) (l .i) * 256 + getD (a .s .now) j 0) (read-from (c .before))
-          ∙ taken-more (a .big) (a .s .now) (a .at) (a .w) (l .i) (omega arith) (omega arith),
-    )
+joined-requires : tie.Need-joined-requires
+joined-requires c κs =
+    let a = c .before .before .before .before .before .args in
+    omega (arith, c .shared-slice-known4 .given (a .at), c .shared-slice-known4 .given (a .at + 1))
 
-returns : tie.Need-returns Inv-loop μ-loop
+four-in-requires : tie.Need-four-in-requires
+four-in-requires c κs = omega (arith, ap widthOf (c .enum-told3 .given .1), c .before .before .before .pre)
+
+four-in-requires-2 : tie.Need-four-in-requires-2
+four-in-requires-2 c κs = omega (arith, eight-there c)
+
+four-in-requires-3 : tie.Need-four-in-requires-3
+four-in-requires-3 c κs = omega (arith, eight-there (c .before))
+
+returns : tie.Need-returns
 returns c =
-    let l = c .before .loop in
-    let a = c .before .before .args in
-    let e : l .i ≡ a .w = omega arith in
-    l .inv .2 ∙ ap (λ n. taken (a .big) (a .s .now) (a .at) (a .w) n) e ∙ taken-all (a .big) (a .s .now) (a .at) (a .w)
+    let a = c .before .before .before .before .args in
+    rw (ap widthOf (c .before .enum-told .given .1)) (sym (one-byte (a .big) (now (a .s)) (a .at) (one-there (c .before))))
+
+returns-2 : tie.Need-returns-2
+returns-2 c =
+    let w = c .before .before .before in
+    let a = w .before .before .before .args in
+    let there = two-there w in
+    rw (ap widthOf (w .enum-told2 .given .1), value-halves (now (a .s)) (a .at) 1 there (a .big), one-byte (a .big) (now (a .s)) (a .at) (omega arith), one-byte (a .big) (now (a .s)) (a .at + 1) (omega arith))
+    (c .joined .ensures)
+
+returns-3 : tie.Need-returns-3
+returns-3 c = rw (ap widthOf (c .before .enum-told3 .given .1)) (c .four-in .ensures)
+
+returns-4 : tie.Need-returns-4
+returns-4 c =
+    let w = c .before .before .before in
+    let a = w .before .before .before .args in
+    rw (ap widthOf (w .enum-told4 .given .1), value-halves (now (a .s)) (a .at) 4 (eight-there w) (a .big), ← c .before .before .four-in2 .ensures, ← c .before .four-in3 .ensures)
+    (c .joined2 .ensures)
 
 pub value-in-spec : {M : Type 1} → statement M
 value-in-spec =
     tie.close
     (tie.spec
-    Inv-loop
-    μ-loop
-    loop-holds
-    (λ c. omega arith)
-    (λ c. omega arith)
-    (λ c. omega arith)
-    (λ c. omega arith)
-    mul-total
-    shared-slice-read-total
-    cast-total
-    add-total
-    (λ c. omega arith)
-    (λ c. omega arith)
-    loop-again
-    returns)
+    (λ c. search needs)
+    shared-slice-read-result
+    cast-result
+    (λ c. search needs)
+    shared-slice-read-joined
+    cast-joined
+    (λ c. search needs)
+    shared-slice-read-joined-2
+    cast-joined-2
+    joined-requires
+    (λ c. search needs)
+    four-in-requires
+    (λ c. search needs)
+    (λ c. search needs)
+    four-in-requires-2
+    (λ c. search needs)
+    (λ c. search needs)
+    four-in-requires-3
+    (λ c. search needs)
+    (λ c κs. search needs)
+    returns
+    returns-2
+    returns-3
+    returns-4)

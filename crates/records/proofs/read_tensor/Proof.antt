@@ -6,14 +6,15 @@ use Prim.Native.Nat.{_+_, _≤_, _<_}
 use mathlib.Core.Path.{_≡_, refl, sym, ap, _∙_}
 use native.Mathlib.Omega.{arith}
 use denote.Ref.{now}
-use Rattle.fields.specs.Reading.{accepted, refused, run, here, andThen}
+use Rattle.fields.specs.Reading.{accepted, run, here, andThen}
 use Rattle.fields.specs.Ceilings.{under}
 use Rattle.fields.proofs.Ceilings.{run-under}
 use Rattle.kinds.specs.Shape.{greatest, productOf}
+use Rattle.kinds.proofs.Answers.{Sized, sized, unsized}
 use Rattle.records.specs.Format.{text, shape, stored, tensor, lengths}
 use Rattle.records.specs.Answers.{asText, asShape, asStored}
 use Rattle.records.proofs.Low.{under-text, under-shape}
-use Rattle.records.proofs.Tensors.{Sized, sized, unsized, stored-known}
+use Rattle.records.proofs.Tensors.{unsized-run, stored-known}
 use Rattle.records.proofs.read_tensor.Statement.{statement}
 use Rattle.records.proofs.read_tensor.Tie as tie
 
@@ -84,8 +85,8 @@ returns-5 c =
     let n = x .before .before .before .before in
     let a = n .before .before .before .before .args in
     rw (run-under, run-under, under-text, ← named n, run-under, under-shape, ← shaped x, run-under, ← kept y)
-    (sym (unsized (a .limits) _ (now (a .s)) _ (a .at) (lengths (x .shape .given .0 .0)) (y .stored .given .0 .0 .kind) (stored-known _ _ _ _ (kept y))
-    (sym (c .before .why4 .given .1) ∙ c .before .before .before .size .ensures)))
+    (sym (unsized-run (a .limits) _ (now (a .s)) _ (a .at) (lengths (x .shape .given .0 .0)) (y .stored .given .0 .0 .kind)
+    (unsized _ _ (stored-known _ _ _ _ (kept y)) (sym (c .before .why4 .given .1) ∙ c .before .before .before .size .ensures))))
 
 returns-6 : tie.Need-returns-6
 unfolding tensor here under run andThen

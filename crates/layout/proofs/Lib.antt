@@ -1,0 +1,4 @@
+pub mod Padding
+pub mod Places
+pub mod Facts
+pub mod Examples
