@@ -1,0 +1,137 @@
+-- A header that was written reads back: its sheet, its alignment, its end and the start of its data, in every version and byte order. Assumes nothing.
+use Prim.Native.Nat.{ℕ, _+_, _≤_}
+use mathlib.Core.Path.{_≡_, refl, sym, ap, subst, _∙_}
+use mathlib.Core.List.{List, [], _++_, map, append-assoc, append-nil}
+use mathlib.Core.Bool.{Bool, true, false}
+use native.Mathlib.Omega.{arith}
+use native.Mathlib.Nat.{zero-add}
+use lib.ListN.{length, length-append}
+use lib.Dec.{leb}
+use borrow.Author.Tests.{le-leb}
+use Rattle.fields.specs.Back.{same, Back, Sure}
+use Rattle.fields.specs.Bytes.{little, bytesOf, rows}
+use Rattle.fields.specs.Each.{times, fold}
+use Rattle.fields.specs.Reading.{Reading, done, Answer, accepted, refused, run, _>>=_, _>>_, check, seen}
+use Rattle.fields.proofs.Back.{stands-first, follows, exactly, closes, at-place, nothing-more, marked-then, checked, number-back, shown}
+use Rattle.kinds.specs.Shape.{greatest}
+use Rattle.header.specs.Answers.{wholeOf}
+use Rattle.records.specs.Contents.{Noted, noted, sizeBytes, entryBytes, tensorBytes, notedOf, weightOf, Within}
+use Rattle.records.specs.Format.{sizeWidth, entry}
+use Rattle.records.proofs.Back.{size-back, tensors-back, entries-back}
+use Rattle.layout.specs.Padding.{padded}
+use Rattle.header.specs.Contents.{Sheet, startBytes, startIn, headerBytes, alignmentIn, Told, told, toldIn, FitsSheet}
+use Rattle.header.specs.Format.{littleMagic, bigMagic, magic, knownVersion, version, counts, start, latest, headerOf, header}
+use Rattle.header.proofs.Ceilings.{full, version-small, full-reader}
+use Rattle.header.proofs.Said.{sure-entries-say, same-alignment, same-entries}
+use Rattle.header.specs.declared.Rooms.{Rooms}
+use Rattle.records.specs.declared.Dialect.{Dialect}
+use Rattle.records.specs.declared.Entry.{Entry}
+use Rattle.records.specs.declared.Tensor.{Tensor}
+
+-- what a view shows, and one thing more
+record Both (C D : Type 0) : Type 0 where
+  first : C
+  second : D
+
+abbrev both : {C D : Type 0} → C → D → Both C D
+both c d = record { first = c; second = d }
+
+module _ {s : List ℕ} where
+  -- a part that is shown as c, with something that is known of whatever is accepted as c
+  knowing : {A C D : Type 0} {view : A → C} {m : Reading A} {p : ℕ} {l : List ℕ} {c : C} {d : D} {P : A → ℕ → Type 0} (also : A → D) → Back s view m p l c → Sure s m p P
+      → ((a : A) → P a (p + length l) → view a ≡ c → also a ≡ d) → Back s (λ a. both (view a) (also a)) m p l (both c d)
+  unfolding seen
+  knowing also b sure made = record {
+    reads = λ h.
+        let r = shown b h in
+        rw (r .1, r .2, made (r .0) (sure .holds (r .0) _ (sym (r .1))) (r .2));
+  }
+
+  -- a last part after which nothing is read
+  closing : {A B C D : Type 0} {view : A → C} {view′ : B → D} {m : Reading A} {f : A → Reading B} {p : ℕ} {l : List ℕ} {c : C} {d : D}
+      → Back s view m p l c → ((a : A) → view a ≡ c → Back s view′ (f a) (p + length l) [] d) → Back s view′ (m >>= f) p l d
+  closing {view′ = view′} {m} {f} {p} {l} {d = d} last then = subst (λ x. Back s view′ (m >>= f) p x d) (append-nil l) (follows last then)
+
+  magic-back : (big : Bool) (p : ℕ) → Back s same magic p (bytesOf big 4 littleMagic) big
+  unfolding magic bytesOf little
+  magic-back false p = at-place _ (closes _ (number-back 4 false littleMagic p (omega arith)) (nothing-more refl))
+  magic-back true p = at-place _ (closes _ (number-back 4 false bigMagic p (omega arith)) (nothing-more refl))
+
+  version-back : (k : Dialect) → knownVersion (k .version) ≡ true → (p : ℕ) → Back s same (version (k .big)) p (bytesOf (k .big) 4 (k .version)) k
+  unfolding version
+  version-back k e p =
+      at-place _ (closes _ (number-back 4 (k .big) (k .version) p (omega (arith, version-small (k .version) e))) (checked 4 p e (marked-then _ _ _ _ (nothing-more refl))))
+
+  counts-back : (rooms : Rooms) (k : Dialect) (n m : ℕ) → Within (sizeWidth k) n → Within (sizeWidth k) m → n ≤ rooms .tensors → m ≤ rooms .entries → (p : ℕ)
+      → Back s same (counts rooms k) p (sizeBytes k n ++ sizeBytes k m) (record { dialect = k; tensors = n; entries = m })
+  unfolding counts
+  counts-back rooms k n m i j roomy roomy′ p =
+      at-place _ (exactly _ (size-back k n i p) (at-place _ (closes _ (size-back k m j _)
+      (checked 6 p (le-leb n (rooms .tensors) roomy) (checked 6 _ (le-leb m (rooms .entries) roomy′) (nothing-more refl))))))
+
+module _ (rooms : Rooms) (cap : ℕ) (k : Dialect) (c : Sheet) (fits : FitsSheet rooms k c) where
+  start-back : {s : List ℕ} (p : ℕ) → Back s same (start rooms) p (startBytes (startIn k c)) (startIn k c)
+  unfolding start startBytes
+  start-back p =
+      simp append-assoc (exactly _ (magic-back (k .big) p) (exactly _ (version-back k (fits .version) _)
+      (counts-back rooms k _ _ (fits .tensorCount) (fits .entryCount) (fits .tensorRoom) (fits .entryRoom) _)))
+
+  -- the entries, and the alignment that they give
+  aligned-back : (s : List ℕ) (p : ℕ)
+      → Back s (λ es. both (map (notedOf k s) es) (fold latest 32 es)) (times (length (c .entries)) (entry k cap)) p (rows (entryBytes k) (c .entries)) (both (map noted (c .entries)) (alignmentIn (c .entries)))
+  aligned-back s p =
+      knowing (fold latest 32) (entries-back k cap (c .entries) (fits .entries) p) (sure-entries-say k s cap _ p) (λ es says e. same-alignment k s es (c .entries) 32 e says)
+
+  -- the last test, and what is told
+  told-back : {s : List ℕ} (es : List Entry) (ts : List Tensor) (u : ℕ) → u ≡ length (headerBytes k c) → map (notedOf k s) es ≡ map noted (c .entries)
+      → fold latest 32 es ≡ alignmentIn (c .entries) → map (weightOf s) ts ≡ c .tensors
+      → Back s (toldIn s) (check (leb (padded (fold latest 32 es) u) greatest) 18 u >> done (record { head = headerOf (startIn k c) (fold latest 32 es) u; entries = es; tensors = ts })) u [] (told k c)
+  told-back {s} es ts u at e a f =
+      let fit : padded (fold latest 32 es) u ≤ greatest = rw (a, at) (fits .start) in
+      checked 18 u (le-leb _ _ fit) (nothing-more (rw (a, at, same-entries k s es (c .entries) e, f)))
+
+  header-length : 0 + length (startBytes (startIn k c)) + length (rows (entryBytes k) (c .entries)) + length (rows (tensorBytes k) (c .tensors)) ≡ length (headerBytes k c)
+  unfolding headerBytes
+  header-length = rw (length-append, length-append, zero-add)
+
+  header-parts : startBytes (startIn k c) ++ (rows (entryBytes k) (c .entries) ++ rows (tensorBytes k) (c .tensors)) ≡ headerBytes k c
+  unfolding headerBytes
+  header-parts = rw append-assoc
+
+  parts-back : (s : List ℕ) → Back s (toldIn s) (header rooms cap) 0 (startBytes (startIn k c) ++ (rows (entryBytes k) (c .entries) ++ rows (tensorBytes k) (c .tensors))) (told k c)
+  unfolding header
+  parts-back s =
+      exactly _ (start-back 0) (follows (aligned-back s _) (λ es e. closing (tensors-back k (c .tensors) 0 (fits .tensors) _) (λ ts f. at-place _
+      (told-back es ts _ header-length (ap (λ (x : Both (List Noted) ℕ). x .first) e) (ap (λ (x : Both (List Noted) ℕ). x .second) e) f))))
+
+  -- where a header stands at the front of a file, it is read as it was written
+  pub header-back : (s : List ℕ) → Back s (toldIn s) (header rooms cap) 0 (headerBytes k c) (told k c)
+  header-back s = subst (λ l. Back s (toldIn s) (header rooms cap) 0 l (told k c)) header-parts (parts-back s)
+
+-- the sheet of an answer, whatever its version, byte order and places
+abbrev pub sheetIn : Answer Told → Answer Sheet
+sheetIn (accepted t q) = accepted (t .sheet) 0
+sheetIn (refused n p) = refused n p
+
+-- a header that was written reads back, whatever follows it
+pub read-back : (rooms : Rooms) (cap : ℕ) (k : Dialect) (c : Sheet) (r : List ℕ) → FitsSheet rooms k c
+    → seen (toldIn (headerBytes k c ++ r)) (run (header rooms cap) (headerBytes k c ++ r) 0) ≡ accepted (told k c) (length (headerBytes k c))
+read-back rooms cap k c r fits = header-back rooms cap k c fits (headerBytes k c ++ r) .reads (stands-first (headerBytes k c) r) ∙ rw zero-add
+
+-- the full reader reads it back, into tables that have a row for each record
+pub reader-back : (cap : ℕ) (es ts : List (List ℕ)) (k : Dialect) (c : Sheet) (r : List ℕ) → FitsSheet (record { entries = length es; tensors = length ts }) k c
+    → seen (toldIn (headerBytes k c ++ r)) (wholeOf full cap es ts (headerBytes k c ++ r)) ≡ accepted (told k c) (length (headerBytes k c))
+reader-back cap es ts k c r fits = ap (seen (toldIn (headerBytes k c ++ r))) (full-reader cap es ts (headerBytes k c ++ r)) ∙ read-back _ cap k c r fits
+
+-- headers that are written as the same bytes tell the same, whatever follows them
+pub one-header : (rooms : Rooms) (k k′ : Dialect) (c c′ : Sheet) (r r′ : List ℕ) → FitsSheet rooms k c → FitsSheet rooms k′ c′ → headerBytes k c ++ r ≡ headerBytes k′ c′ ++ r′
+    → told k c ≡ told k′ c′
+one-header rooms k k′ c c′ r r′ fits fits′ e =
+    let equal : accepted (told k c) (length (headerBytes k c)) ≡ accepted (told k′ c′) (length (headerBytes k′ c′)) =
+    sym (read-back rooms 0 k c r fits) ∙ ap (λ s. seen (toldIn s) (run (header rooms 0) s 0)) e ∙ read-back rooms 0 k′ c′ r′ fits′ in
+    cc
+
+-- a sheet reads back the same from every version and byte order
+pub versions-agree : (rooms : Rooms) (cap : ℕ) (k k′ : Dialect) (c : Sheet) (r r′ : List ℕ) → FitsSheet rooms k c → FitsSheet rooms k′ c
+    → sheetIn (seen (toldIn (headerBytes k c ++ r)) (run (header rooms cap) (headerBytes k c ++ r) 0)) ≡ sheetIn (seen (toldIn (headerBytes k′ c ++ r′)) (run (header rooms cap) (headerBytes k′ c ++ r′) 0))
+versions-agree rooms cap k k′ c r r′ fits fits′ = ap sheetIn (read-back rooms cap k c r fits) ∙ sym (ap sheetIn (read-back rooms cap k′ c r′ fits′))

@@ -1,0 +1,77 @@
+-- A reader with ceilings answers what the reader of the whole format does, up to the first version or kind above them. Assumes nothing.
+use Prim.Native.Nat.{ℕ, _≤_}
+use mathlib.Core.Path.{_≡_, sym, ap, _∙_}
+use mathlib.Core.List.{List}
+use mathlib.Core.Bool.{Bool, true, false}
+use native.Mathlib.Omega.{arith}
+use lib.ListN.{length}
+use lib.Dec.{leb, eqb}
+use borrow.Author.Tests.{leb-true, le-leb}
+use Rattle.fields.specs.Ceilings.{marks, orTooNew, Low}
+use Rattle.fields.specs.Choice.{if_then_else_}
+use Rattle.fields.specs.Each.{fold}
+use Rattle.fields.specs.Reading.{aVersion, Reading, accepted, run}
+use Rattle.fields.proofs.Ceilings.{ceilings, let-through, low-run, low-bind, low-done, low-here, low-mark, low-number, low-checked, low-each}
+use Rattle.kinds.specs.Shape.{greatest}
+use Rattle.header.specs.Answers.{wholeOf}
+use Rattle.records.proofs.Low.{low-entry, low-tensor}
+use Rattle.layout.specs.Padding.{padded}
+use Rattle.header.specs.Format.{knownVersion, version, start, latest, Whole, header}
+use Rattle.header.proofs.Starts.{low-magic, low-counts}
+use Rattle.header.specs.declared.Rooms.{Rooms}
+use Rattle.fields.specs.declared.Limits.{Limits}
+
+-- the ceilings of the whole format
+abbrev pub full : Limits
+full = record { versions = 3; kinds = 39 }
+
+-- a known version is at most 3
+pub version-small : (v : ℕ) → knownVersion v ≡ true → v ≤ 3
+version-small v e = by (eqb v 0) e
+  where
+    by : (b : Bool) → (if b then false else leb v 3) ≡ true → v ≤ 3
+    by true e = let z : _≡_ {A = ℕ} 0 1 = cc in absurd (omega arith)
+    by false e = leb-true v 3 e
+
+module _ (l : Limits) (versions : 3 ≤ l .versions) (kinds : 39 ≤ l .kinds) where
+  low-version : (big : Bool) → Low l (version big)
+  unfolding version
+  low-version big =
+      low-bind l _ _ (low-here l) (λ p. low-bind l _ _ (low-number l 4 big) (λ v. low-checked l (knownVersion v) 4 p _ (λ e.
+      low-bind l _ _ (low-mark l aVersion v p (le-leb v (l .versions) (omega (arith, version-small v e)))) (λ u. low-done l _))))
+
+  low-start : (rooms : Rooms) → Low l (start rooms)
+  unfolding start
+  low-start rooms = low-bind l _ _ (low-magic l) (λ big. low-bind l _ _ (low-version big) (low-counts l rooms))
+
+  pub low-header : (rooms : Rooms) (cap : ℕ) → Low l (header rooms cap)
+  unfolding header
+  low-header rooms cap =
+      low-bind l _ _ (low-start rooms) (λ c. low-bind l _ _ (low-each l _ _ (λ z. low-entry l (c .dialect) cap) (c .entries) tt) (λ es.
+      low-bind l _ _ (low-each l _ _ (low-tensor l kinds (c .dialect)) (c .tensors) 0) (λ ts. low-bind l _ _ (low-here l) (λ e.
+      low-checked l (leb (padded (fold latest 32 es) e) greatest) 18 e _ (λ h. low-done l _)))))
+
+-- the program of a reader with these tables
+abbrev pub tabled : ℕ → List (List ℕ) → List (List ℕ) → Reading Whole
+tabled cap es ts = header (record { entries = length es; tensors = length ts }) cap
+
+module _ (cap : ℕ) (es ts : List (List ℕ)) (s : List ℕ) where
+  -- with any ceilings the reader refuses at the first version or kind above them, if there is one, and else answers what the format's own program does
+  pub up-to-ceilings : (l : Limits) → wholeOf l cap es ts s ≡ orTooNew l (marks (tabled cap es ts) s 0) (run (tabled cap es ts) s 0)
+  up-to-ceilings l = ceilings l (tabled cap es ts) s 0
+
+  -- ceilings that no version and no kind of the format is above change nothing
+  pub no-ceilings : (l : Limits) → 3 ≤ l .versions → 39 ≤ l .kinds → wholeOf l cap es ts s ≡ run (tabled cap es ts) s 0
+  no-ceilings l v k = low-run l (tabled cap es ts) (low-header l v k _ cap) s 0
+
+  -- so the full reader answers what the format's own program does
+  pub full-reader : wholeOf full cap es ts s ≡ run (tabled cap es ts) s 0
+  full-reader = no-ceilings full (omega arith) (omega arith)
+
+  -- and a reader with any ceilings what the full reader does, up to the first version or kind above them
+  pub below-ceilings : (l : Limits) → wholeOf l cap es ts s ≡ orTooNew l (marks (tabled cap es ts) s 0) (wholeOf full cap es ts s)
+  below-ceilings l = up-to-ceilings l ∙ ap (orTooNew l (marks (tabled cap es ts) s 0)) (sym full-reader)
+
+  -- what it accepts, the full reader accepts
+  pub accepted-below : (l : Limits) {w : Whole} {q : ℕ} → accepted w q ≡ wholeOf l cap es ts s → accepted w q ≡ wholeOf full cap es ts s
+  accepted-below l e = let-through l (marks (tabled cap es ts) s 0) _ (e ∙ below-ceilings l)

@@ -1,0 +1,11 @@
+pub mod Totals
+pub mod Starts
+pub mod Signs
+pub mod Whole
+pub mod Stays
+pub mod Ceilings
+pub mod Refusals
+pub mod Data
+pub mod Said
+pub mod Back
+pub mod Examples

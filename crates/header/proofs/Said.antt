@@ -1,0 +1,139 @@
+-- The alignment that contents say is the one that a reader finds. Assumes nothing.
+use Prim.Native.Nat.{ℕ, suc, _%_, _^_, _≤_, _<_}
+use mathlib.Core.Path.{_≡_, refl, sym, ap, _∙_}
+use mathlib.Core.List.{List, [], _∷_, map}
+use mathlib.Core.Bool.{Bool, true, false, not}
+use native.Mathlib.Omega.{arith}
+use lib.Dec.{eqb, ltb}
+use native.Mathlib.Nat.{mod-mod}
+use mir.Val.{bits, hbits, ofZ}
+use mir.Syntax.{Width, w8, w16, w32, w64}
+use borrow.Author.Tests.{ltb-true}
+use Rattle.fields.specs.Back.{All, Sure}
+use Rattle.fields.specs.Choice.{if_then_else_}
+use Rattle.fields.specs.Each.{times, fold}
+use Rattle.fields.specs.Reading.{Reading}
+use Rattle.fields.proofs.Sure.{sure-then, sure-done, sure-here, sure-if, sure-each, sure-so, whatever}
+use Rattle.records.specs.Contents.{Content, one, word, list, Entered, Noted, noted, scalarBits, saidOf, enteredOf, notedOf}
+use Rattle.records.specs.Format.{value, isWord, alignmentKey, scalarWidth, signedOf, scalarOf, valueOf, array, depth, keeping, entry}
+use Rattle.records.proofs.Back.{kept-said}
+use Rattle.records.proofs.Complement.{signed-bits}
+use Rattle.records.proofs.Types.{_&_, below, width-known, scalar-typed}
+use Rattle.header.specs.Contents.{alignmentSaid, latestSaid, alignmentIn}
+use Rattle.kinds.specs.Shape.{greatest}
+use Rattle.layout.specs.Padding.{padded}
+use Rattle.header.specs.Format.{integerOf, alignmentOf, latest}
+use Rattle.header.proofs.Data.{Alignment, integer-small, usable-alignment, thirty-two, kept-alignment, latest-alignment, start-small}
+use Rattle.records.specs.declared.Dialect.{Dialect}
+use Rattle.records.specs.declared.Span.{Span}
+use Rattle.records.specs.declared.ArraySpan.{ArraySpan}
+use Rattle.records.specs.declared.Entry.{Entry}
+use Rattle.records.specs.declared.Value.{Value}
+use Rattle.records.specs.declared.Scalar.the-variants.{U8, I8, U16, I16, U32, I32, F32, Bool as Truth, U64, I64, F64}
+use Rattle.records.specs.declared.Value.the-variants.{Single, Text, Array}
+
+-- the low bits of low bits, and of the two's complement of those
+twice : (w : Width) (n : ℕ) → n % 2 ^ bits w % 2 ^ bits w ≡ n % 2 ^ bits w
+twice w n = mod-mod n (2 ^ bits w)
+
+signed-twice : (w : Width) (n : ℕ) → ofZ w (signedOf (2 ^ hbits w) (n % 2 ^ bits w)) % 2 ^ bits w ≡ n % 2 ^ bits w
+signed-twice w n = ap (λ m. m % 2 ^ bits w) (signed-bits w n) ∙ twice w n
+
+-- a scalar that was read is the scalar of its bits
+pub scalar-again : (t n : ℕ) → t ≤ 12 → 0 < scalarWidth t → scalarOf t (scalarBits (scalarOf t n)) ≡ scalarOf t n
+unfolding scalarWidth
+scalar-again t n h =
+    below (λ u. 0 < scalarWidth u → scalarOf u (scalarBits (scalarOf u n)) ≡ scalarOf u n) 13
+    ((λ w. ap U8 (twice w8 n)) &
+    (λ w. ap (λ m. I8 (signedOf (2 ^ 7) m)) (signed-twice w8 n)) &
+    (λ w. ap U16 (twice w16 n)) &
+    (λ w. ap (λ m. I16 (signedOf (2 ^ 15) m)) (signed-twice w16 n)) &
+    (λ w. ap U32 (twice w32 n)) &
+    (λ w. ap (λ m. I32 (signedOf (2 ^ 31) m)) (signed-twice w32 n)) &
+    (λ w. ap F32 (twice w32 n)) &
+    (λ w. truth (eqb (n % 2 ^ 8) 0)) &
+    (λ w. absurd (omega arith)) &
+    (λ w. absurd (omega arith)) &
+    (λ w. ap U64 (twice w64 n)) &
+    (λ w. ap (λ m. I64 (signedOf (2 ^ 63) m)) (signed-twice w64 n)) &
+    (λ w. ap F64 (twice w64 n)) &
+    tt) t (omega arith)
+  where
+    truth : (b : Bool) → Truth (not (eqb ((if not b then 1 else 0) % 2 ^ 8) 0)) ≡ Truth (not b)
+    truth true = refl
+    truth false = refl
+
+module _ (k : Dialect) (s : List ℕ) where
+  -- a value gives the alignment that is said of it
+  abbrev pub Says : Value → Type 0
+  Says v = alignmentOf v ≡ alignmentSaid (saidOf (suc depth) k s v)
+
+  text-says : (a : Span) → Says (Text a)
+  unfolding saidOf
+  text-says a = refl
+
+  array-says : (a : ArraySpan) → Says (Array a)
+  unfolding saidOf
+  array-says a = refl
+
+  scalar-says : (t n : ℕ) → 0 < scalarWidth t → Says (Single (scalarOf t n))
+  unfolding saidOf
+  scalar-says t n wide =
+      let i : t ≤ 12 = width-known t wide in
+      rw (scalar-typed t n i wide, scalar-again t n i wide)
+
+  kept-says : (tokens : Bool) (cap : ℕ) (v : Value) → Says v → Says (keeping tokens cap v)
+  kept-says tokens cap v h = kept-alignment tokens cap v ∙ h ∙ ap alignmentSaid (sym (kept-said (suc depth) k s tokens cap v))
+
+  sure-value-says : (arrays : ℕ → Reading ArraySpan) (o t p : ℕ) → Sure s (valueOf arrays k o t) p (λ v q. Says v)
+  unfolding valueOf
+  sure-value-says arrays o t p =
+      sure-if (ltb 0 (scalarWidth t)) _ _ (λ e. sure-then whatever (λ n q u. sure-done (scalar-says t n (ltb-true _ _ e))))
+      (λ e. sure-if (eqb t 8) _ _ (λ f. sure-then whatever (λ a q u. sure-done (text-says a))) (λ f. sure-then whatever (λ a q u. sure-done (array-says a))))
+
+  sure-says : (cap p : ℕ) → Sure s (entry k cap) p (λ e q. Says (e .value))
+  unfolding entry value
+  sure-says cap p =
+      sure-then whatever (λ x q u. sure-then (sure-here _ (sure-then whatever (λ t r v. sure-value-says (array depth k) q t r))) (λ v r h. sure-done (kept-says (x .tokens) cap v h)))
+
+  -- so do the entries that are read
+  pub sure-entries-say : (cap n p : ℕ) → Sure s (times n (entry k cap)) p (λ es q. All (λ (e : Entry). Says (e .value)) es)
+  sure-entries-say cap n p = sure-so (sure-each {P = λ z (e : Entry). Says (e .value)} _ _ (λ z. sure-says cap) n tt p) (λ es q h. h .1)
+
+  -- entries that are shown as contents give the alignment of those
+  pub same-alignment : (es : List Entry) (cs : List Entered) (a : ℕ) → map (notedOf k s) es ≡ map noted cs → All (λ (e : Entry). Says (e .value)) es → fold latest a es ≡ fold latestSaid a cs
+  same-alignment [] [] a h all = refl
+  same-alignment [] (c ∷ cs) a h all = let z : _≡_ {A = ℕ} 0 1 = cc in absurd (omega arith)
+  same-alignment (e ∷ es) [] a h all = let z : _≡_ {A = ℕ} 0 1 = cc in absurd (omega arith)
+  same-alignment (e ∷ es) (c ∷ cs) a h all =
+      let first : notedOf k s e ≡ noted c = cc in
+      let others : map (notedOf k s) es ≡ map noted cs = cc in
+      let aligns : e .aligns ≡ isWord alignmentKey (c .key) = ap (λ (n : Noted). n .aligns) first in
+      let said : saidOf (suc depth) k s (e .value) ≡ c .said = ap (λ (n : Noted). n .entered .said) first in
+      let step : latest a e ≡ latestSaid a c = rw (all .0, aligns, said) in
+      rw step (same-alignment es cs (latestSaid a c) others (all .1))
+
+  -- and say those
+  pub same-entries : (es : List Entry) (cs : List Entered) → map (notedOf k s) es ≡ map noted cs → map (enteredOf k s) es ≡ cs
+  same-entries [] [] h = refl
+  same-entries [] (c ∷ cs) h = let z : _≡_ {A = ℕ} 0 1 = cc in absurd (omega arith)
+  same-entries (e ∷ es) [] h = let z : _≡_ {A = ℕ} 0 1 = cc in absurd (omega arith)
+  same-entries (e ∷ es) (c ∷ cs) h =
+      let first : notedOf k s e ≡ noted c = cc in
+      let others : map (notedOf k s) es ≡ map noted cs = cc in
+      let entered : enteredOf k s e ≡ c = ap (λ (n : Noted). n .entered) first in
+      rw (entered, same-entries es cs others)
+
+-- a value gives an alignment, whatever it says
+said-alignment : (c : Content (suc depth)) → Alignment (alignmentSaid c)
+said-alignment (one t v) = usable-alignment (integerOf (scalarOf t v)) (integer-small t v)
+said-alignment (word b) = thirty-two
+said-alignment (list t l) = thirty-two
+
+fold-said : (cs : List Entered) (a : ℕ) → Alignment a → Alignment (fold latestSaid a cs)
+fold-said [] a h = h
+fold-said (c ∷ cs) a h = fold-said cs (latestSaid a c) (latest-alignment a (isWord alignmentKey (c .key)) (alignmentSaid (c .said)) h (said-alignment (c .said)))
+
+-- so where the header takes fewer than 2 ^ 63 bytes, the start of its data fits 64 bits
+pub start-fits : (cs : List Entered) (n : ℕ) → n < 2 ^ 63 → padded (alignmentIn cs) n ≤ greatest
+start-fits cs n short = start-small (alignmentIn cs) n (fold-said cs 32 thirty-two) short

@@ -1,0 +1,78 @@
+-- `header::pass_tensors` meets its contract. The invariant: from here and with this total, the tensors that are left give what all of them do.
+-- Assumes nothing.
+use borrow.Author.Needs.{needs}
+use Prim.Native.Nat.{_-_, _≤_}
+use mathlib.Core.Path.{_≡_, sym, ap, _∙_}
+use native.Mathlib.Omega.{arith}
+use native.Mathlib.Nat.{sub-zero}
+use denote.Ref.{now}
+use Rattle.fields.specs.Reading.{accepted, run, passed, seen}
+use Rattle.fields.specs.Each.{each}
+use Rattle.fields.specs.Ceilings.{under}
+use Rattle.fields.proofs.Turns.{each-ends, each-stops, each-passed}
+use Rattle.records.specs.Format.{tensor, totalOf}
+use Rattle.records.specs.Answers.{asTensor}
+use Rattle.header.proofs.Totals.{total-fits}
+use Rattle.header.proofs.pass_tensors.Statement.{statement}
+use Rattle.header.proofs.pass_tensors.Tie as tie
+
+abbrev Inv-loop : tie.InvT-loop
+Inv-loop s at n dialect limits from₀ total₀ i₀ from total i =
+    (i ≤ n)
+    × (passed (run (each (λ z. under limits (tensor dialect z)) totalOf n 0) s at) ≡ passed (run (each (λ z. under limits (tensor dialect z)) totalOf (n - i) total) s from))
+
+abbrev μ-loop : tie.MeasureT-loop
+μ-loop s at n dialect limits from₀ total₀ i₀ from total i = n - i
+
+loop-holds : tie.Need-loop-holds Inv-loop μ-loop
+loop-holds c = (omega arith, rw sub-zero)
+
+-- the tensor that was read
+found : (c : tie.After-tensor Inv-loop μ-loop) →
+    let v = c .before .before .before .before .loop in
+    let a = c .before .before .before .before .before .before .args in
+    accepted (c .tensor .given .0 .0) (c .tensor .given .0 .1 .0) ≡ run (under (a .limits) (tensor (a .dialect) (v .total))) (now (a .s)) (v .from)
+found c = ap asTensor (sym (c .tensor .given .1)) ∙ c .before .before .read-tensor .ensures
+
+returns : tie.Need-returns Inv-loop μ-loop
+unfolding seen
+returns c =
+    let t = c .before .before .before in
+    let a = t .before .before .before .before .args in
+    let v = t .before .before .loop in
+    let e = ap asTensor (sym (c .before .why .given .1)) ∙ t .read-tensor .ensures in
+    sym (v .inv .1 ∙ ap passed (each-stops (λ z. under (a .limits) (tensor (a .dialect) z)) totalOf _ _ _ _ (v .total) (t .before .loop-test .taken) e))
+
+add-total : tie.Need-add-total Inv-loop μ-loop
+add-total c = record { fits = omega (arith, total-fits _ _ _ _ _ (found (c .before .before))) }
+
+loop-again : tie.Need-loop-again Inv-loop μ-loop
+loop-again c =
+    let t = c .before .before .before .before in
+    let a = t .before .before .before .before .args in
+    let v = t .before .before .loop in
+    (omega arith, v .inv .1 ∙ each-passed (λ z. under (a .limits) (tensor (a .dialect) z)) totalOf _ _ _ _ (v .total) (t .before .loop-test .taken) (found (c .before .before)))
+
+returns-2 : tie.Need-returns-2 Inv-loop μ-loop
+unfolding seen
+returns-2 c =
+    let a = c .before .before .before .args in
+    let v = c .before .loop in
+    sym (v .inv .1 ∙ ap passed (each-ends (λ z. under (a .limits) (tensor (a .dialect) z)) totalOf _ _ _ _ (v .total) (c .loop-test .left)))
+
+pub pass-tensors-spec : {M : Type 1} → statement M
+pass-tensors-spec =
+    tie.close
+    (tie.spec
+    Inv-loop
+    μ-loop
+    loop-holds
+    (λ c κs. search needs)
+    (λ c. search needs)
+    returns
+    (λ c. search needs)
+    add-total
+    (λ c. omega arith)
+    (λ c. omega arith)
+    loop-again
+    returns-2)

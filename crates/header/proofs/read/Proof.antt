@@ -1,0 +1,127 @@
+use mathlib.Core.Path.{refl, sym, ap, _∙_}
+use borrow.Author.Needs.{needs}
+use denote.Ref.{now}
+use lib.ListN.{length}
+use Rattle.fields.specs.Each.{filled}
+use Rattle.fields.specs.Reading.{isAccepted, seen}
+use Rattle.fields.specs.Value.{asNumber}
+use Rattle.records.specs.Answers.{asPassed}
+use Rattle.records.specs.Rows.{entryRow, tensorRow}
+use Rattle.header.specs.declared.Rooms.{Rooms}
+use Rattle.header.specs.Answers.{asStart}
+use Rattle.header.proofs.Whole.{Started, Aligned, Ended, Passed, no-start, no-entries, no-tensors, no-data, reached}
+use Rattle.header.proofs.read.Statement.{statement}
+use Rattle.header.proofs.read.Tie as tie
+
+-- as many rows as the tables have
+abbrev rooms : tie.Start → Rooms
+rooms z = record { entries = length (now (z .args .entries)); tensors = length (now (z .args .tensors)) }
+
+-- what was read at each stage
+started : (c : tie.After-start) →
+    let z = c .before .before .before .before in
+    let g = c .start .given .0 in
+    Started (z .args .limits) (rooms z) (z .args .cap) (now (z .args .s)) (g .0) (g .1 .0)
+started c = ap asStart (sym (c .start .given .1)) ∙ c .before .before .read-start .ensures
+
+aligned : (c : tie.After-alignment) →
+    let b = c .before .before .before .before .before in
+    let z = b .before .before .before .before in
+    let g = b .start .given .0 in
+    let h = c .alignment .given .0 in
+    Aligned (z .args .limits) (rooms z) (z .args .cap) (now (z .args .s)) (g .0) (g .1 .0) (h .0) (h .1 .0)
+aligned c = ap asNumber (sym (c .alignment .given .1)) ∙ c .before .before .pass-entries .ensures
+
+ended : (c : tie.After-end) →
+    let d = c .before .before .before .before in
+    let b = d .before .before .before .before .before in
+    let z = b .before .before .before .before in
+    Ended (z .args .limits) (rooms z) (z .args .cap) (now (z .args .s)) (b .start .given .0 .0) (d .alignment .given .0 .1 .0) (c .end .given .0 .0)
+ended c = ap asPassed (sym (c .end .given .1)) ∙ c .before .before .pass-tensors .ensures
+
+-- all that is known where a header was told
+known : (c : tie.After-header) →
+    let e = c .before .before .before .before in
+    let d = e .before .before .before .before in
+    let b = d .before .before .before .before .before in
+    let z = b .before .before .before .before in
+    let g = b .start .given .0 in
+    let h = d .alignment .given .0 in
+    Passed (z .args .limits) (rooms z) (z .args .cap) (now (z .args .s)) (g .0) (g .1 .0) (h .0) (h .1 .0) (e .end .given .0 .0) (c .header .given .0 .0)
+known c =
+    let e = c .before .before .before .before in
+    let d = e .before .before .before .before in
+    reached _ _ _ _ (started (d .before .before .before .before .before)) (aligned d) (ended e) (sym (c .header .given .1) ∙ c .before .before .told .ensures)
+
+fill-requires : tie.Need-fill-requires
+fill-requires c κs =
+    let k = known (c .before .before .before) in
+    (k .room, (ap isAccepted (sym (k .entries)), ap isAccepted (sym (k .tensors))))
+
+returns : tie.Need-returns
+unfolding seen
+returns c =
+    let r = ap asStart (sym (c .before .why .given .1)) ∙ c .before .before .before .read-start .ensures in
+    rw (no-start _ _ _ _ r) (refl, (refl, refl))
+
+returns-2 : tie.Need-returns-2
+unfolding seen
+returns-2 c =
+    let r = ap asNumber (sym (c .before .why2 .given .1)) ∙ c .before .before .before .pass-entries .ensures in
+    rw (no-entries _ _ _ _ (started (c .before .before .before .before .before .before)) r) (refl, (refl, refl))
+
+returns-3 : tie.Need-returns-3
+unfolding seen
+returns-3 c =
+    let r = ap asPassed (sym (c .before .why3 .given .1)) ∙ c .before .before .before .pass-tensors .ensures in
+    let d = c .before .before .before .before .before in
+    rw (no-tensors _ _ _ _ (started (d .before .before .before .before .before)) (aligned d) r) (refl, (refl, refl))
+
+returns-4 : tie.Need-returns-4
+unfolding seen
+returns-4 c =
+    let r = sym (c .before .why4 .given .1) ∙ c .before .before .before .told .ensures in
+    let e = c .before .before .before .before .before in
+    let d = e .before .before .before .before in
+    rw (no-data _ _ _ _ (started (d .before .before .before .before .before)) (aligned d) (ended e) r) (refl, (refl, refl))
+
+returns-5 : tie.Need-returns-5
+unfolding seen
+returns-5 c =
+    let f = c .before .before in
+    let t = c .before .before .before .before .before .before in
+    let k = known t in
+    let d = t .before .before .before .before .before .before .before .before in
+    let z = d .before .before .before .before .before .before .before .before .before in
+    rw (k .all) (
+      refl,
+      (
+        f .fill .ensures .0 ∙ ap (filled entryRow (now (z .args .entries))) (sym (k .entries)),
+        f .fill .ensures .1 ∙ ap (filled tensorRow (now (z .args .tensors))) (sym (k .tensors)),
+      ),
+    )
+
+pub read-spec : {M : Type 1} → statement M
+read-spec =
+    tie.close
+    (tie.spec
+    (λ c κs. search needs)
+    (λ c. search needs)
+    (λ c. search needs)
+    (λ c κs. search needs)
+    (λ c. search needs)
+    (λ c. search needs)
+    (λ c κs. search needs)
+    (λ c. search needs)
+    (λ c. search needs)
+    (λ c κs. search needs)
+    (λ c. search needs)
+    (λ c. search needs)
+    fill-requires
+    returns
+    returns-2
+    returns-3
+    returns-4
+    (λ c. search needs)
+    (λ c. search needs)
+    returns-5)

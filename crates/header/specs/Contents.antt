@@ -1,0 +1,91 @@
+-- What a whole header says, without its places; the bytes that say it; and what a reader finds in them.
+use Prim.Native.Nat.{ℕ, suc, _≤_}
+use mathlib.Core.Path.{_≡_}
+use mathlib.Core.Bool.{true}
+use mathlib.Core.List.{List, _++_, map}
+use lib.ListN.{length}
+use Rattle.fields.specs.Choice.{if_then_else_}
+use Rattle.fields.specs.Each.{fold}
+use Rattle.fields.specs.Bytes.{bytesOf, rows}
+use Rattle.fields.specs.Back.{Along, All}
+use Rattle.kinds.specs.Shape.{greatest}
+use Rattle.layout.specs.Padding.{padded}
+use Rattle.records.specs.declared.Dialect.{Dialect}
+use Rattle.records.specs.Format.{sizeWidth, isWord, alignmentKey, scalarOf, depth}
+use Rattle.records.specs.Contents.{Content, one, word, list, Entered, Weight, sizeBytes, entryBytes, tensorBytes, enteredOf, weightOf, Within, FitsEntry, FitsTensor, totalWith}
+use Rattle.header.specs.declared.Rooms.{Rooms}
+use Rattle.header.specs.declared.Start.{Start}
+use Rattle.header.specs.Format.{littleMagic, knownVersion, integerOf, usable, Whole}
+
+-- the entries and the tensors, in the order of the file
+pub record Sheet : Type 0 where
+  pub entries : List Entered
+  pub tensors : List Weight
+
+-- The bytes.
+
+-- what stands before the first record; a file of the other byte order has its magic the other way round
+unfoldable pub startBytes : Start → List ℕ
+startBytes c =
+    bytesOf (c .dialect .big) 4 littleMagic ++ bytesOf (c .dialect .big) 4 (c .dialect .version) ++ sizeBytes (c .dialect) (c .tensors) ++ sizeBytes (c .dialect) (c .entries)
+
+-- how many records there are
+abbrev pub startIn : Dialect → Sheet → Start
+startIn k c = record { dialect = k; tensors = length (c .tensors); entries = length (c .entries) }
+
+-- a header
+unfoldable pub headerBytes : Dialect → Sheet → List ℕ
+headerBytes k c = startBytes (startIn k c) ++ rows (entryBytes k) (c .entries) ++ rows (tensorBytes k) (c .tensors)
+
+-- The alignment.
+
+-- the alignment that a value gives
+abbrev pub alignmentSaid : Content (suc depth) → ℕ
+alignmentSaid (one t v) = usable (integerOf (scalarOf t v))
+alignmentSaid (word b) = 32
+alignmentSaid (list t l) = 32
+
+-- the alignment after an entry
+abbrev pub latestSaid : ℕ → Entered → ℕ
+latestSaid a e = if isWord alignmentKey (e .key) then alignmentSaid (e .said) else a
+
+-- the alignment: the last entry whose key is "general.alignment" decides
+abbrev pub alignmentIn : List Entered → ℕ
+alignmentIn es = fold latestSaid 32 es
+
+-- What a reader finds.
+
+-- all that is told of a header: its version and byte order, its sheet, its alignment, where it ends and where its data starts
+pub record Told : Type 0 where
+  pub dialect : Dialect
+  pub sheet : Sheet
+  pub alignment : ℕ
+  pub end : ℕ
+  pub start : ℕ
+
+-- what is told of the header of a sheet
+abbrev pub told : Dialect → Sheet → Told
+told k c =
+    record { dialect = k; sheet = c; alignment = alignmentIn (c .entries); end = length (headerBytes k c); start = padded (alignmentIn (c .entries)) (length (headerBytes k c)) }
+
+-- the version and byte order that were read
+abbrev pub dialectOf : Whole → Dialect
+dialectOf w = record { version = w .head .version; big = w .head .big }
+
+-- what was read, with what stands at its places
+abbrev pub sheetOf : List ℕ → Whole → Sheet
+sheetOf s w = record { entries = map (enteredOf (dialectOf w) s) (w .entries); tensors = map (weightOf s) (w .tensors) }
+
+abbrev pub toldIn : List ℕ → Whole → Told
+toldIn s w = record { dialect = dialectOf w; sheet = sheetOf s w; alignment = w .head .alignment; end = w .head .end; start = w .head .start }
+
+-- What can be written: each number fits its field, there are rows for all records, and the start of the data fits 64 bits.
+pub record FitsSheet (rooms : Rooms) (k : Dialect) (c : Sheet) : Type 0 where
+  pub version : knownVersion (k .version) ≡ true
+  pub entryCount : Within (sizeWidth k) (length (c .entries))
+  pub tensorCount : Within (sizeWidth k) (length (c .tensors))
+  pub entryRoom : length (c .entries) ≤ rooms .entries
+  pub tensorRoom : length (c .tensors) ≤ rooms .tensors
+  pub entries : All (FitsEntry k) (c .entries)
+  pub tensors : Along FitsTensor totalWith 0 (c .tensors)
+  pub start : padded (alignmentIn (c .entries)) (length (headerBytes k c)) ≤ greatest
