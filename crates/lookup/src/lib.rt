@@ -1,0 +1,256 @@
+// Questions that people ask of a header: the value of a key, the string of a key, the model's family, the file's type.
+//
+// Each question reads the whole header, with the ceilings of the whole format and rows for any count, so that a bad tensor refuses the
+// lookup of a good key. A string comes back as the part of the prefix that holds it.
+use fields::Limits;
+use fields::Number;
+use header::HeaderRead;
+use header::Rooms;
+use header::StartRead;
+use kinds::FileKind;
+use records::Dialect;
+use records::Entry;
+use records::EntryRead;
+use records::Passed;
+use records::Scalar;
+use records::Span;
+use records::Value;
+ghost use mathlib.Core.Path.{_≡_};
+ghost use mathlib.Core.Bool.{true};
+ghost use Prim.Native.Nat.{_+_, _≤_};
+ghost use lib.ListN.{length};
+ghost use Rattle.fields.specs.Reading.{run, isAccepted};
+ghost use Rattle.fields.specs.Each.{times, fold};
+ghost use Rattle.fields.specs.Back.{got};
+ghost use Rattle.records.specs.Format.{isWord, entry};
+ghost use Rattle.records.specs.Contents.{bytesAt};
+ghost use Rattle.lookup.specs.Questions as questions;
+
+// What was found of a key so far.
+pub enum Sought {
+    Present { entry: Entry },
+    Missing,
+}
+
+pub enum Lookup {
+    Found { entry: Entry },
+    Absent,
+    Refused { why: u64, place: usize },
+}
+
+pub enum FileTypeTold {
+    Known { number: u64 },
+    Unknown,
+    Refused { why: u64, place: usize },
+}
+
+// The first word of what a string question tells, beside refusals' numbers: a string, no such key, a value of another type.
+pub const TOLD_STRING: u64 = 0;
+
+pub const TOLD_ABSENT: u64 = 100;
+
+pub const TOLD_OTHER_TYPE: u64 = 101;
+
+// Whether a text is that key.
+fn is_key(s: &[u8], span: Span, key: &[u8]) -> bool
+    requires { ⌜ span .place + span .len ≤ length (now s) ⌝ }
+    ensures { λ r. ⌜ r ≡ isWord (now (key .entry)) (bytesAt (now (s .entry)) span) ⌝ }
+{
+    if span.len != key.len() {
+        return false;
+    }
+    let place = span.place;
+    records::begins_at(s, place, key)
+}
+
+// The last of n entries that are all there whose key it is.
+fn find_last(s: &[u8], at: usize, n: u64, dialect: Dialect, key: &[u8]) -> Sought
+    requires { ⌜ isAccepted (run (times n (entry dialect 3)) (now s) at) ≡ true ⌝ }
+    ensures { λ r. ⌜ r ≡ fold (questions.sought (now (key .entry)) (now (s .entry))) Sought.Missing (got (run (times n (entry dialect 3)) (now (s .entry)) at)) ⌝ }
+{
+    let mut from = at;
+    let mut found = Sought::Missing;
+    let mut i: u64 = 0;
+    while i < n {
+        match records::read_entry(s, from, dialect, 3) {
+            EntryRead::Refused { why: _, place: _ } => {
+                return found;
+            }
+            EntryRead::Found { entry, next } => {
+                let span = entry.key;
+                if is_key(s, span, key) {
+                    found = Sought::Present { entry };
+                }
+                from = next;
+            }
+        }
+        i += 1;
+    }
+    found
+}
+
+// The last entry of a key.
+pub fn find(s: &[u8], key: &[u8]) -> Lookup
+    ensures { λ r. ⌜ r ≡ questions.lookup (now (key .entry)) (now (s .entry)) ⌝ }
+{
+    let limits = Limits {
+        versions: 3,
+        kinds: 39,
+    };
+    let rooms = Rooms {
+        entries: 18446744073709551615,
+        tensors: 18446744073709551615,
+    };
+    match header::read_start(s, limits, rooms) {
+        StartRead::Refused { why, place } => Lookup::Refused { why, place },
+        StartRead::Found { start, next: p } => {
+            let dialect = start.dialect;
+            match header::pass_entries(s, p, start.entries, dialect, 3) {
+                Number::Refused { why, place } => Lookup::Refused { why, place },
+                Number::Value {
+                    value: alignment,
+                    next: q,
+                } => match header::pass_tensors(s, q, start.tensors, dialect, limits) {
+                    Passed::Refused { why, place } => Lookup::Refused { why, place },
+                    Passed::To { next: end } => match header::told(start, alignment, end) {
+                        HeaderRead::Refused { why, place } => Lookup::Refused { why, place },
+                        HeaderRead::Found { header: _ } => {
+                            match find_last(s, p, start.entries, dialect, key) {
+                                Sought::Present { entry } => Lookup::Found { entry },
+                                Sought::Missing => Lookup::Absent,
+                            }
+                        }
+                    },
+                },
+            }
+        }
+    }
+}
+
+// The part of s where a text is, and its empty front where that is not inside.
+fn inside(s: &[u8], span: Span) -> &[u8]
+    ensures { λ r. ⌜ now r ≡ questions.insideOf (now (s .entry)) span ⌝ }
+{
+    let place = span.place;
+    let len = span.len;
+    if s.len() < len {
+        return &s[0..0];
+    }
+    if s.len() - len < place {
+        return &s[0..0];
+    }
+    let end = place + len;
+    &s[place..end]
+}
+
+// The string that a lookup found, as the part of the prefix that holds it; an empty part where it found none.
+pub fn string_of(s: &[u8], found: Lookup) -> &[u8]
+    ensures { λ r. ⌜ now r ≡ questions.stringOf (now (s .entry)) found ⌝ }
+{
+    match found {
+        Lookup::Absent => &s[0..0],
+        Lookup::Refused { why: _, place: _ } => &s[0..0],
+        Lookup::Found { entry } => {
+            let v = entry.value;
+            match v {
+                Value::Single(_) => &s[0..0],
+                Value::Array(_) => &s[0..0],
+                Value::Text(a) => inside(s, a),
+            }
+        }
+    }
+}
+
+// What tells a string from 'absent', from another type and from a refusal.
+pub fn string_told(found: Lookup) -> [u64; 2]
+    ensures { λ r. ⌜ r ≡ questions.stringTold found ⌝ }
+{
+    match found {
+        Lookup::Absent => [TOLD_ABSENT, 0],
+        Lookup::Refused { why, place } => [why, place as u64],
+        Lookup::Found { entry } => {
+            let v = entry.value;
+            match v {
+                Value::Single(_) => [TOLD_OTHER_TYPE, 0],
+                Value::Array(_) => [TOLD_OTHER_TYPE, 0],
+                Value::Text(_) => [TOLD_STRING, 0],
+            }
+        }
+    }
+}
+
+// The string of a key, as a part of the prefix, and in told what its emptiness means.
+pub fn find_string<'a>(s: &'a [u8], key: &[u8], told: &mut [u64; 2]) -> &'a [u8]
+    ensures { λ r. ⌜ now r ≡ questions.stringOf (now (s .entry)) (questions.lookup (now (key .entry)) (now (s .entry))) ⌝ }
+    ensures { λ r. ⌜ now (told .exit) ≡ questions.stringTold (questions.lookup (now (key .entry)) (now (s .entry))) ⌝ }
+{
+    let found = find(s, key);
+    *told = string_told(found);
+    string_of(s, found)
+}
+
+// The model's family: the string of "general.architecture".
+pub fn model_family<'a>(s: &'a [u8], told: &mut [u64; 2]) -> &'a [u8]
+    ensures { λ r. ⌜ now r ≡ questions.stringOf (now (s .entry)) (questions.lookup questions.architectureKey (now (s .entry))) ⌝ }
+    ensures { λ r. ⌜ now (told .exit) ≡ questions.stringTold (questions.lookup questions.architectureKey (now (s .entry))) ⌝ }
+{
+    find_string(s, b"general.architecture", told)
+}
+
+// A file type that is not below 0.
+fn signed_type(n: i64) -> FileKind
+    ensures { λ r. ⌜ r ≡ questions.signedType n ⌝ }
+{
+    if n < 0 {
+        FileKind::Unknown
+    } else {
+        kinds::file_type(n as u64)
+    }
+}
+
+// The file type that a scalar says.
+fn scalar_file_type(x: Scalar) -> FileKind
+    ensures { λ r. ⌜ r ≡ questions.scalarFileType x ⌝ }
+{
+    match x {
+        Scalar::U8(n) => kinds::file_type(n as u64),
+        Scalar::I8(n) => signed_type(n as i64),
+        Scalar::U16(n) => kinds::file_type(n as u64),
+        Scalar::I16(n) => signed_type(n as i64),
+        Scalar::U32(n) => kinds::file_type(n as u64),
+        Scalar::I32(n) => signed_type(n as i64),
+        Scalar::F32(_) => FileKind::Unknown,
+        Scalar::Bool(_) => FileKind::Unknown,
+        Scalar::U64(n) => kinds::file_type(n),
+        Scalar::I64(n) => signed_type(n),
+        Scalar::F64(_) => FileKind::Unknown,
+    }
+}
+
+// The file's type, from what was found of "general.file_type".
+fn file_type_in(found: Lookup) -> FileTypeTold
+    ensures { λ r. ⌜ r ≡ questions.fileTypeIn found ⌝ }
+{
+    match found {
+        Lookup::Absent => FileTypeTold::Unknown,
+        Lookup::Refused { why, place } => FileTypeTold::Refused { why, place },
+        Lookup::Found { entry } => {
+            let v = entry.value;
+            match v {
+                Value::Text(_) => FileTypeTold::Unknown,
+                Value::Array(_) => FileTypeTold::Unknown,
+                Value::Single(x) => match scalar_file_type(x) {
+                    FileKind::Unknown => FileTypeTold::Unknown,
+                    FileKind::Number { number } => FileTypeTold::Known { number },
+                },
+            }
+        }
+    }
+}
+
+// The file's type: a number of the table, or unknown, or the reader's refusal.
+pub fn file_type(s: &[u8]) -> FileTypeTold
+    ensures { λ r. ⌜ r ≡ questions.fileTypeIn (questions.lookup questions.fileTypeKey (now (s .entry))) ⌝ }
+{
+    file_type_in(find(s, b"general.file_type"))
+}

@@ -1,0 +1,23 @@
+-- `strutpebble::sp_read` meets its contract: `header::read`'s answer, told as numbers. Assumes nothing.
+use borrow.Author.Needs.{needs}
+use mathlib.Core.Path.{ap, _∙_}
+use Rattle.strutpebble.specs.Numbers.{numberOf, wordsOf}
+use Rattle.strutpebble.proofs.sp_read.Statement.{statement}
+use Rattle.strutpebble.proofs.sp_read.Tie as tie
+
+returns : tie.Need-returns
+returns c =
+    let w = c .before in
+    let r = w .before .before .before in
+    (c .number-of .ensures ∙ ap numberOf (r .read .ensures .0), (w .words-of .ensures ∙ ap wordsOf (r .read .ensures .0), (r .read .ensures .1 .0, r .read .ensures .1 .1)))
+
+pub sp-read-spec : {M : Type 1} → statement M
+sp-read-spec =
+    tie.close
+    (tie.spec
+    (λ c κs. search needs)
+    (λ c κs. search needs)
+    (λ c κs. search needs)
+    (λ c. search needs)
+    (λ c. search needs)
+    returns)

@@ -1,0 +1,171 @@
+//! Headers that are made up, and damaged copies of them. The same seed gives the same inputs.
+
+/// A small generator of random numbers (xorshift).
+pub struct Random(u64);
+
+impl Random {
+    pub fn new(seed: u64) -> Self {
+        Random(seed)
+    }
+
+    pub fn next(&mut self) -> u64 {
+        self.0 ^= self.0 << 13;
+        self.0 ^= self.0 >> 7;
+        self.0 ^= self.0 << 17;
+        self.0.wrapping_mul(0x2545_F491_4F6C_DD1D) >> 11
+    }
+
+    pub fn below(&mut self, n: u64) -> u64 {
+        self.next() % n
+    }
+
+    fn pick<T: Copy>(&mut self, of: &[T]) -> T {
+        of[self.below(of.len() as u64) as usize]
+    }
+}
+
+/// A header that was made up: its bytes, its byte order, and where its fields of numbers are (place and width).
+pub struct Made {
+    pub bytes: Vec<u8>,
+    pub big: bool,
+    version: u64,
+    fields: Vec<(usize, usize)>,
+}
+
+/// The bytes of a scalar of each value type, 0 of a string and an array.
+pub const WIDTHS: [usize; 13] = [1, 1, 2, 2, 4, 4, 4, 1, 0, 0, 8, 8, 8];
+
+fn number(big: bool, width: usize, value: u64) -> Vec<u8> {
+    let mut bytes = value.to_le_bytes()[..width].to_vec();
+    if big {
+        bytes.reverse();
+    }
+    bytes
+}
+
+impl Made {
+    fn number(&mut self, width: usize, value: u64) {
+        self.fields.push((self.bytes.len(), width));
+        self.bytes.extend(number(self.big, width, value));
+    }
+
+    fn size(&mut self, n: u64) {
+        self.number(if self.version == 1 { 4 } else { 8 }, n);
+    }
+
+    fn text(&mut self, text: &[u8]) {
+        self.size(text.len() as u64);
+        self.bytes.extend_from_slice(text);
+    }
+
+    fn scalar(&mut self, kind: u64, random: &mut Random) {
+        let width = WIDTHS[kind as usize];
+        let sign = 1u64 << (8 * width - 1);
+        let other = random.next() ^ (random.next() << 40);
+        let eights = 8 * random.below(20);
+        let value = random.pick(&[0, 1, u64::MAX, sign, eights, other]);
+        self.number(width, value);
+    }
+}
+
+fn name(random: &mut Random) -> Vec<u8> {
+    const NAMES: [&[u8]; 12] = [
+        b"general.alignment",
+        b"general.alignmenT",
+        b"general.alignment2",
+        b"general.alignmen",
+        b"general.architecture",
+        b"general.file_type",
+        b"tokenizer.x",
+        b"tokenizer.",
+        b"tokenizer",
+        b"a",
+        b"b",
+        b"",
+    ];
+    if random.below(4) < 3 {
+        random.pick(&NAMES).to_vec()
+    } else {
+        (0..random.below(30)).map(|_| b'a' + random.below(26) as u8).collect()
+    }
+}
+
+fn array(made: &mut Made, random: &mut Random) {
+    let item = random.pick(&[0, 1, 2, 3, 4, 5, 6, 7, 8, 9, 10, 11, 12]);
+    let count = random.below(if item == 9 { 2 } else { 7 });
+    made.number(4, item);
+    made.size(count);
+    for _ in 0..count {
+        match item {
+            8 => made.text(&name(random)),
+            9 => {}
+            _ => made.scalar(item, random),
+        }
+    }
+}
+
+fn entry(made: &mut Made, random: &mut Random) {
+    let key = name(random);
+    made.text(&key);
+    let kind = if key.starts_with(b"tok") && random.below(2) == 0 { 9 } else { random.below(13) };
+    made.number(4, kind);
+    match kind {
+        8 => made.text(&name(random)),
+        9 => array(made, random),
+        _ => made.scalar(kind, random),
+    }
+}
+
+fn tensor(made: &mut Made, random: &mut Random) {
+    made.text(&name(random));
+    let dimensions = if random.below(20) == 0 { 5 } else { random.below(5) };
+    made.number(4, dimensions);
+    for _ in 0..dimensions {
+        let small = random.below(300);
+        let length = random.pick(&[1 << 32, 0, u64::MAX, 1 << 62, (1 << 62) - 1, 1 << 63, 1 << 16, small, small, small, small, small]);
+        made.number(8, length);
+    }
+    let known = random.below(40);
+    let any = random.below(45);
+    made.number(4, random.pick(&[known, known, known, known, any]));
+    made.number(8, 8 * random.below(1000));
+}
+
+/// A header of any version and byte order, with up to five entries and three tensors.
+pub fn header(random: &mut Random) -> Made {
+    let big = random.below(2) == 1;
+    let version = random.pick(&[1, 2, 3, 3]);
+    let mut made = Made { bytes: vec![], big, version, fields: vec![(0, 4)] };
+    made.bytes.extend_from_slice(if big { b"FUGG" } else { b"GGUF" });
+    made.number(4, version);
+    let tensors = random.below(4);
+    let entries = random.below(6);
+    made.size(tensors);
+    made.size(entries);
+    (0..entries).for_each(|_| entry(&mut made, random));
+    (0..tensors).for_each(|_| tensor(&mut made, random));
+    made
+}
+
+/// Copies with one field at a boundary value, and copies with one byte changed.
+pub fn damaged(made: &Made, random: &mut Random) -> Vec<Vec<u8>> {
+    const BOUNDARIES: [u64; 18] =
+        [0, 1, 2, 3, 4, 5, 8, 9, 12, 13, 31, 39, 40, 41, (1 << 30) + 1, 1 << 32, 1 << 62, u64::MAX];
+    let mut copies = vec![];
+    for &(place, width) in &made.fields {
+        for value in BOUNDARIES {
+            if random.below(4) == 0 {
+                let mut bytes = made.bytes.clone();
+                bytes[place..place + width].copy_from_slice(&number(made.big, width, value));
+                copies.push(bytes);
+            }
+        }
+    }
+    for _ in 0..8 {
+        let mut bytes = made.bytes.clone();
+        let place = random.below(bytes.len() as u64) as usize;
+        bytes[place] = random.next() as u8;
+        copies.push(bytes);
+    }
+    copies
+}

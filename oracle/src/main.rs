@@ -1,0 +1,48 @@
+//! Holds the reader against the original: both are given the same bytes, and every result is compared.
+
+#[allow(dead_code, unused)]
+#[path = "../original/src/lib.rs"]
+mod original;
+
+mod compare;
+mod inputs;
+
+use compare::Agreed;
+use inputs::{damaged, header, Random};
+
+fn main() {
+    let headers: u64 = std::env::args().nth(1).and_then(|n| n.parse().ok()).unwrap_or(1000);
+    // The original panics at kind 40; that is expected, and not worth a message each time.
+    std::panic::set_hook(Box::new(|info| {
+        let text = info.to_string();
+        if !text.contains("not a real data format") {
+            eprintln!("{text}");
+        }
+    }));
+    let mut random = Random::new(0x9E37_79B9_7F4A_7C15);
+    let mut agreed = Agreed::default();
+    // Every input of up to two bytes, and every magic that stands for something.
+    for first in 0..=255u8 {
+        agreed.on(&[first], 3);
+        for second in 0..=255u8 {
+            agreed.on(&[first, second], 3);
+        }
+    }
+    agreed.on(&[], 3);
+    for magic in [0x6767_6d6cu32, 0x6767_6d66, 0x6767_6a74, 0x6767_6c61, 0x4655_4747, 0x4747_5546, 0] {
+        agreed.on(&magic.to_le_bytes(), 3);
+        agreed.on(&magic.to_be_bytes(), 3);
+    }
+    for _ in 0..headers {
+        let made = header(&mut random);
+        let cap = [3, 0, 1, 100][random.below(4) as usize];
+        agreed.on(&made.bytes, cap);
+        for end in 0..made.bytes.len() {
+            agreed.on(&made.bytes[..end], cap);
+        }
+        for bytes in damaged(&made, &mut random) {
+            agreed.on(&bytes, cap);
+        }
+    }
+    agreed.tell();
+}
