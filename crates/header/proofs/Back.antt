@@ -14,14 +14,14 @@ use Rattle.fields.specs.Each.{times, fold}
 use Rattle.fields.specs.Reading.{Reading, done, Answer, accepted, refused, run, _>>=_, _>>_, check, seen}
 use Rattle.fields.proofs.Back.{stands-first, follows, exactly, closes, at-place, nothing-more, marked-then, checked, number-back, shown}
 use Rattle.kinds.specs.Shape.{greatest}
-use Rattle.header.specs.Answers.{wholeOf}
+use Rattle.header.specs.Answers.{full, wholeOf}
 use Rattle.records.specs.Contents.{Noted, noted, sizeBytes, entryBytes, tensorBytes, notedOf, weightOf, Within}
 use Rattle.records.specs.Format.{sizeWidth, entry}
 use Rattle.records.proofs.Back.{size-back, tensors-back, entries-back}
 use Rattle.layout.specs.Padding.{padded}
 use Rattle.header.specs.Contents.{Sheet, startBytes, startIn, headerBytes, alignmentIn, Told, told, toldIn, FitsSheet}
 use Rattle.header.specs.Format.{littleMagic, bigMagic, magic, knownVersion, version, counts, start, latest, headerOf, header}
-use Rattle.header.proofs.Ceilings.{full, version-small, full-reader}
+use Rattle.header.proofs.Ceilings.{version-small, full-reader}
 use Rattle.header.proofs.Said.{sure-entries-say, same-alignment, same-entries}
 use Rattle.header.specs.declared.Rooms.{Rooms}
 use Rattle.records.specs.declared.Dialect.{Dialect}

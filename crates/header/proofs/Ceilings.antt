@@ -13,17 +13,13 @@ use Rattle.fields.specs.Each.{fold}
 use Rattle.fields.specs.Reading.{aVersion, Reading, accepted, run}
 use Rattle.fields.proofs.Ceilings.{ceilings, let-through, low-run, low-bind, low-done, low-here, low-mark, low-number, low-checked, low-each}
 use Rattle.kinds.specs.Shape.{greatest}
-use Rattle.header.specs.Answers.{wholeOf}
+use Rattle.header.specs.Answers.{full, wholeOf}
 use Rattle.records.proofs.Low.{low-entry, low-tensor}
 use Rattle.layout.specs.Padding.{padded}
 use Rattle.header.specs.Format.{knownVersion, version, start, latest, Whole, header}
 use Rattle.header.proofs.Starts.{low-magic, low-counts}
 use Rattle.header.specs.declared.Rooms.{Rooms}
 use Rattle.fields.specs.declared.Limits.{Limits}
-
--- the ceilings of the whole format
-abbrev pub full : Limits
-full = record { versions = 3; kinds = 39 }
 
 -- a known version is at most 3
 pub version-small : (v : ℕ) → knownVersion v ≡ true → v ≤ 3

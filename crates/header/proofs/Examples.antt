@@ -10,14 +10,13 @@ use Rattle.fields.specs.Ceilings.{under}
 use Rattle.fields.specs.Each.{each}
 use Rattle.fields.specs.Reading.{accepted, refused, run, _>>=_, here, seen}
 use Rattle.fields.specs.Value.{number}
-use Rattle.header.specs.Answers.{wholeOf}
+use Rattle.header.specs.Answers.{full, wholeOf}
 use Rattle.kinds.specs.Table.{blockOf}
 use Rattle.records.specs.Contents.{Weight, sizeBytes, textBytes, typeBytes, lengthBytes, shapeBytes, storedBytes, tensorBytes, Within, FitsLength, FitsShape}
 use Rattle.records.specs.Format.{value, size, textLooking, text, alignmentKey, key, type, scalarWidth, valueOf, entry, lengthAt, shape, stored, tensor}
 use Rattle.header.specs.Contents.{Sheet, startBytes, headerBytes, toldIn, FitsSheet}
 use Rattle.header.specs.Format.{magic, version, counts, start, header}
 use Rattle.header.proofs.Back.{reader-back}
-use Rattle.header.proofs.Ceilings.{full}
 use Rattle.header.specs.declared.Header.{Header}
 use Rattle.records.specs.declared.Tensor.{Tensor}
 use Rattle.records.specs.declared.Scalar.the-variants.{U32}

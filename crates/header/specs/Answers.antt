@@ -47,6 +47,10 @@ asHeader (NoHeader n p) = refused n p
 abbrev pub toldOf : Start → ℕ → ℕ → HeaderRead
 toldOf c a e = if leb (padded a e) greatest then FoundHeader (headerOf c a e) else NoHeader 18 e
 
+-- the ceilings of the whole format
+abbrev pub full : Limits
+full = record { versions = 3; kinds = 39 }
+
 -- the run that a reader's answer and both its tables come from: its ceilings, its cap, the tables as they were, and the bytes
 abbrev pub wholeOf : Limits → ℕ → List (List ℕ) → List (List ℕ) → List ℕ → Answer Whole
 wholeOf limits cap entries tensors s = run (under limits (header (record { entries = length entries; tensors = length tensors }) cap)) s 0

@@ -8,7 +8,6 @@ use Rattle.fields.specs.Choice.{if_then_else_}
 use Rattle.fields.specs.Reading.{Answer, accepted, refused, run, seen}
 use Rattle.fields.specs.Each.{fold}
 use Rattle.fields.specs.Ceilings.{under}
-use Rattle.fields.specs.declared.Limits.{Limits}
 use Rattle.kinds.specs.Shape.{greatest}
 use Rattle.kinds.specs.FileType.{fileTypeOf}
 use Rattle.kinds.specs.declared.FileKind.{FileKind}
@@ -22,6 +21,7 @@ use Rattle.records.specs.declared.Entry.{Entry}
 use Rattle.records.specs.Format.{isWord}
 use Rattle.records.specs.Contents.{bytesAt}
 use Rattle.header.specs.declared.Rooms.{Rooms}
+use Rattle.header.specs.Answers.{full}
 use Rattle.header.specs.Format.{header}
 use Rattle.lookup.specs.declared.Sought.{Sought}
 use Rattle.lookup.specs.declared.Sought.the-variants.{Present, Missing}
@@ -29,10 +29,6 @@ use Rattle.lookup.specs.declared.Lookup.{Lookup}
 use Rattle.lookup.specs.declared.Lookup.the-variants.{Found, Absent, Refused}
 use Rattle.lookup.specs.declared.FileTypeTold.{FileTypeTold}
 use Rattle.lookup.specs.declared.FileTypeTold.the-variants.{Known, Unknown as NotKnown, Refused as NotRead}
-
--- the ceilings of the whole format
-abbrev pub everything : Limits
-everything = record { versions = 3; kinds = 39 }
 
 -- rows for any count, so that none is refused for want of rows
 abbrev pub enough : Rooms
@@ -50,7 +46,7 @@ lookupOf (refused n p) = Refused n p
 
 -- the lookup of a key: the whole header is read, with a cap of 3
 abbrev pub lookup : List ℕ → List ℕ → Lookup
-lookup key s = lookupOf (seen (λ w. fold (sought key s) Missing (w .entries)) (run (under everything (header enough 3)) s 0))
+lookup key s = lookupOf (seen (λ w. fold (sought key s) Missing (w .entries)) (run (under full (header enough 3)) s 0))
 
 -- the bytes of a text that is inside, and none of one that is not
 abbrev pub insideOf : List ℕ → Span → List ℕ

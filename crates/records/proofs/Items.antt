@@ -29,7 +29,7 @@ module _ (arrays : ℕ → Reading ArraySpan) (k : Dialect) (o : ℕ) (s : List 
   value-array = run-bind (arrays o) (λ a. done (Array a)) s at
 
 -- a type that was accepted is one of the thirteen
-sure-type : (k : Dialect) (s : List ℕ) (p : ℕ) → Sure s (type k) p (λ t q. t ≤ 12)
+pub sure-type : (k : Dialect) (s : List ℕ) (p : ℕ) → Sure s (type k) p (λ t q. t ≤ 12)
 unfolding type
 sure-type k s p =
     sure-here _ (sure-then whatever (λ t q u. sure-check (leb t 12) 8 p _ (λ few. sure-done (leb-true _ _ few))))

@@ -21,6 +21,7 @@ use Rattle.records.specs.Rows.{scalarType}
 use Rattle.records.proofs.Back.{kept-said}
 use Rattle.records.proofs.Scalars.{scalar-kept}
 use Rattle.records.proofs.Texts.{begins-take, word-told}
+use Rattle.records.proofs.Items.{sure-type}
 use Rattle.records.proofs.Types.{scalar-typed, array-typed}
 use Rattle.records.specs.declared.Dialect.{Dialect}
 use Rattle.records.specs.declared.Span.{Span}
@@ -80,10 +81,6 @@ module _ (k : Dialect) (s : List ℕ) (bytes : All Byte s) where
   sure-key p =
       sure-looking 18 keyOf (λ a h. (h, rw (word-told alignmentKey (bytesAt s a) 18 (omega arith), begins-take tokenizerKey (bytesAt s a) 18 (omega arith)))) p
 
-  pub sure-type : (p : ℕ) → Sure s (type k) p (λ t q. t ≤ 12)
-  unfolding type
-  sure-type p = sure-here _ (sure-then (sure-number s bytes 4 (k .big) p) (λ t q h. sure-check (leb t 12) 8 p _ (λ e. sure-done (leb-true _ _ e))))
-
   -- a value, where the arrays in it are sure to fit
   said-sure : (d : ℕ) → ((o p : ℕ) → Sure s (array d k o) p (λ a q. FitsSaid (suc d) k (saidOf (suc d) k s (Array a)))) → (o t p : ℕ) → t ≤ 12
       → Sure s (valueOf (array d k) k o t) p (λ v q. Typed d k s t v)
@@ -103,14 +100,14 @@ module _ (k : Dialect) (s : List ℕ) (bytes : All Byte s) where
   unfolding array saidOf
   array-sure zero o p = sure-refuse
   array-sure (suc d) o p =
-      sure-here _ (sure-then (sure-type p) (λ t q i. sure-then (sure-size q) (λ n r h. sure-here _
+      sure-here _ (sure-then (sure-type k s p) (λ t q i. sure-then (sure-size q) (λ n r h. sure-here _
       (sure-then (sure-run (sure-each _ _ (λ z u. said-sure d (array-sure d) p t u i) n tt r)) (λ l u g. sure-done
       (rw (items-again (saidOf (suc d) k s) (valueOf (array d k) k 0 t) n s r (items-anywhere d k p t n s r (g .1)), length-map (saidOf (suc d) k s) l, g .0 .0)
       (omega arith, i, h, all-map (λ c. (typeOf c ≡ t) × FitsSaid (suc d) k c) (saidOf (suc d) k s) (λ v f. (f .typed, f .fits)) l (g .0 .1))))))))
 
   pub sure-value : (p : ℕ) → Sure s (value k) p (λ v q. FitsSaid (suc depth) k (saidOf (suc depth) k s v))
   unfolding value
-  sure-value p = sure-here _ (sure-then (sure-type p) (λ t q i. sure-so (said-sure depth (array-sure depth) p t q i) (λ v r h. h .fits)))
+  sure-value p = sure-here _ (sure-then (sure-type k s p) (λ t q i. sure-so (said-sure depth (array-sure depth) p t q i) (λ v r h. h .fits)))
 
   -- an entry, and that its key decided what it says
   pub sure-noted : (cap p : ℕ) → Sure s (entry k cap) p (λ e q. FitsEntry k (enteredOf k s e) × (notedOf k s e ≡ noted (enteredOf k s e)))

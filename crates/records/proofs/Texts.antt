@@ -5,7 +5,7 @@ use mathlib.Core.List.{List, [], _∷_}
 use mathlib.Core.Bool.{Bool, true, false}
 use native.Mathlib.Omega.{arith}
 use native.Mathlib.Numerals.{add-one}
-use lib.ListN.{length, take, drop, getD, length-drop, length-take}
+use lib.ListN.{drop-of-length-le, length, take, drop, getD, length-drop, length-take}
 use lib.Seq.{drop-cons, length-take-le, take-all}
 use lib.Dec.{leb, eqb}
 use borrow.Author.Tests.{leb-true, leb-false, eq-eqb, ne-eqb}
@@ -105,15 +105,9 @@ begins-short (x ∷ w) (y ∷ text) h = begins-cases (eqb x y) (begins w text) (
 abbrev pub beginsFrom : List ℕ → ℕ → List ℕ → ℕ → Bool
 beginsFrom s p w i = begins (drop i w) (drop (p + i) s)
 
-drop-all : (n : ℕ) (l : List ℕ) → length l ≤ n → drop n l ≡ []
-drop-all zero [] h = refl
-drop-all zero (x ∷ l) h = absurd (omega arith)
-drop-all (suc n) [] h = refl
-drop-all (suc n) (x ∷ l) h = drop-all n l (omega arith)
-
 module _ (s : List ℕ) (p : ℕ) (w : List ℕ) (i : ℕ) where
   pub begins-ends : length w ≤ i → beginsFrom s p w i ≡ true
-  begins-ends h = rw (drop-all i w h)
+  begins-ends h = rw (drop-of-length-le w {i = i} h)
 
   pub begins-turn : p + length w ≤ length s → i < length w → beginsFrom s p w i ≡ (if eqb (getD w i 0) (getD s (p + i) 0) then beginsFrom s p w (i + 1) else false)
   begins-turn fits h =
