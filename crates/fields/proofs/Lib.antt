@@ -4,6 +4,8 @@ pub mod Turns
 pub mod Ceilings
 pub mod Numbers
 pub mod Bytes
+pub mod Swaps
 pub mod Chain
 pub mod Back
 pub mod Sure
+pub mod Order

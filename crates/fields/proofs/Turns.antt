@@ -1,5 +1,5 @@
 -- A turn of a repetition, whatever is read, whatever goes through it, and whatever a row is. Assumes nothing.
-use Prim.Native.Nat.{ℕ, suc, _+_, _-_, _≤_, _<_}
+use Prim.Native.Nat.{ℕ, zero, suc, _+_, _-_, _≤_, _<_}
 use mathlib.Core.Path.{_≡_, refl, sym, ap, _∙_}
 use mathlib.Core.List.{List, [], _∷_, _++_, map, append-assoc}
 use mathlib.Core.Bool.{true, false}
@@ -140,3 +140,20 @@ module _ {A B : Type 0} (g : A → B) (m : Reading A) (s : List ℕ) (at : ℕ) 
 
   pub seen-refused : {n p : ℕ} → refused n p ≡ seen g (run m s at) → refused n p ≡ run m s at
   seen-refused e = seen-none g (run m s at) e
+
+-- two programs of which the same is kept, and what is kept of them so many times
+module _ {A B : Type 0} (m : Reading A) (k : Reading B) (s : List ℕ) (alike : (p : ℕ) → passed (run m s p) ≡ passed (run k s p)) where
+  alike-turn : (n at : ℕ) → ((q : ℕ) → passed (run (times n m) s q) ≡ passed (run (times n k) s q)) → (r : Answer (Unit {0})) → r ≡ passed (run m s at)
+      → passed (run (times (suc n) m) s at) ≡ passed (run (times (suc n) k) s at)
+  alike-turn n at rest (accepted tt q) e =
+      let all : suc n - 0 ≡ suc n = omega arith in
+      let less : suc n - (0 + 1) ≡ n = omega arith in
+      rw (all, less) at (passed-on m s at (suc n) 0 (omega arith) e) ∙ rest q ∙ sym (rw (all, less) at (passed-on k s at (suc n) 0 (omega arith) (e ∙ alike at)))
+  alike-turn n at rest (refused w p) e =
+      let all : suc n - 0 ≡ suc n = omega arith in
+      rw all at (passed-not m s at (suc n) 0 (omega arith) e) ∙ sym (rw all at (passed-not k s at (suc n) 0 (omega arith) (e ∙ alike at)))
+
+  pub times-alike : (n at : ℕ) → passed (run (times n m) s at) ≡ passed (run (times n k) s at)
+  unfolding each run seen
+  times-alike zero at = refl
+  times-alike (suc n) at = alike-turn n at (times-alike n) (passed (run m s at)) refl

@@ -6,3 +6,4 @@ pub mod Ceilings
 pub mod Value
 pub mod Bytes
 pub mod Back
+pub mod Order

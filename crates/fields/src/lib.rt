@@ -4,11 +4,13 @@
 // of compile to one load (and a swap).
 ghost use mathlib.Core.Path.{_≡_};
 ghost use mathlib.Core.List.{[], _∷_};
+ghost use mathlib.Core.Bool.{true, false};
 ghost use Prim.Native.Nat.{_+_, _≤_, _<_, _^_};
 ghost use lib.ListN.{length, take, drop, replicate};
 ghost use Rattle.fields.specs.Reading.{run};
 ghost use Rattle.fields.specs.Value.{widthOf, leValue, value, halves, number, asNumber};
 ghost use Rattle.fields.specs.Bytes.{bytesOf, Wrote};
+ghost use Rattle.fields.specs.Order.{before};
 
 // The widths that a number has.
 pub enum Width {
@@ -49,16 +51,28 @@ fn four(a: u8, b: u8, c: u8, d: u8) -> u32
     (a as u32) + 256 * ((b as u32) + 256 * ((c as u32) + 256 * (d as u32)))
 }
 
-// The number of four bytes that are there.
+// A number of four bytes, turned round: sums that the compiler knows as a swap.
+fn turned(v: u32) -> u32
+    ensures { λ r. ⌜ r ≡ value true (bytesOf false 4 v) ⌝ }
+{
+    let second = v / 256;
+    let third = second / 256;
+    let fourth = third / 256;
+    four(
+        (fourth % 256) as u8,
+        (third % 256) as u8,
+        (second % 256) as u8,
+        (v % 256) as u8,
+    )
+}
+
+// The number of four bytes that are there: one load, and a swap where the big end comes first.
 fn four_in(s: &[u8], at: usize, big: bool) -> u32
     requires { ⌜ at + 4 ≤ length (now s) ⌝ }
     ensures { λ r. ⌜ r ≡ value big (take 4 (drop at (now (s .entry)))) ⌝ }
 {
-    if big {
-        four(s[at + 3], s[at + 2], s[at + 1], s[at])
-    } else {
-        four(s[at], s[at + 1], s[at + 2], s[at + 3])
-    }
+    let v = four(s[at], s[at + 1], s[at + 2], s[at + 3]);
+    if big { turned(v) } else { v }
 }
 
 // The number of two halves, each of which is below unit.
@@ -73,6 +87,23 @@ fn joined(first: u64, second: u64, unit: u64, big: bool) -> u64
     }
 }
 
+// The number of eight bytes that are there: again one load, and a swap.
+fn eight_in(s: &[u8], at: usize, big: bool) -> u64
+    requires { ⌜ at + 8 ≤ length (now s) ⌝ }
+    ensures { λ r. ⌜ r ≡ value big (take 8 (drop at (now (s .entry)))) ⌝ }
+{
+    let first = four_in(s, at, false) as u64;
+    let second = four_in(s, at + 4, false) as u64;
+    let v = joined(first, second, 4294967296, false);
+    if big {
+        let low = turned((v % 4294967296) as u32) as u64;
+        let high = turned((v / 4294967296) as u32) as u64;
+        high + 4294967296 * low
+    } else {
+        v
+    }
+}
+
 // The number of a field that is wholly there.
 fn value_in(s: &[u8], at: usize, width: Width, big: bool) -> u64
     requires { ⌜ at + widthOf width ≤ length (now s) ⌝ }
@@ -82,11 +113,7 @@ fn value_in(s: &[u8], at: usize, width: Width, big: bool) -> u64
         Width::One => s[at] as u64,
         Width::Two => joined(s[at] as u64, s[at + 1] as u64, 256, big),
         Width::Four => four_in(s, at, big) as u64,
-        Width::Eight => {
-            let first = four_in(s, at, big) as u64;
-            let second = four_in(s, at + 4, big) as u64;
-            joined(first, second, 4294967296, big)
-        }
+        Width::Eight => eight_in(s, at, big),
     }
 }
 
@@ -159,4 +186,24 @@ pub fn put_zeros(out: &mut [u8], n: usize) -> usize
         i += 1;
     }
     n
+}
+
+// Whether one text comes before another, byte by byte; the front of a text comes before it.
+pub fn comes_before(a: &[u8], b: &[u8]) -> bool
+    ensures { λ r. ⌜ r ≡ before (now (a .entry)) (now (b .entry)) ⌝ }
+{
+    let mut i: usize = 0;
+    while i < a.len() {
+        if b.len() <= i {
+            return false;
+        }
+        if a[i] < b[i] {
+            return true;
+        }
+        if b[i] < a[i] {
+            return false;
+        }
+        i += 1;
+    }
+    a.len() < b.len()
 }

@@ -13,7 +13,7 @@ use Rattle.fields.specs.Value.{number}
 use Rattle.header.specs.Answers.{full, wholeOf}
 use Rattle.kinds.specs.Table.{blockOf}
 use Rattle.records.specs.Contents.{Weight, sizeBytes, textBytes, typeBytes, lengthBytes, shapeBytes, storedBytes, tensorBytes, Within, FitsLength, FitsShape}
-use Rattle.records.specs.Format.{value, size, textLooking, text, alignmentKey, key, type, scalarWidth, valueOf, entry, lengthAt, shape, stored, tensor}
+use Rattle.records.specs.Format.{value, size, textLooking, text, alignmentKey, key, type, scalarWidth, valueOf, entry, lengthAt, lengthsOf, shape, stored, tensor}
 use Rattle.header.specs.Contents.{Sheet, startBytes, headerBytes, toldIn, FitsSheet}
 use Rattle.header.specs.Format.{magic, version, counts, start, header}
 use Rattle.header.proofs.Back.{reader-back}
@@ -71,12 +71,12 @@ no-records-1 = refl
 
 -- 90 bytes, and the data after 96: 20 bytes and 6
 pub two-tensors : wholeOf full 0 [] ([] ∷ [] ∷ []) tensors3 ≡ accepted (record { head = plain 3 2 90 96; entries = []; tensors = flat 32 0 5 0 20 ∷ flat 65 1 3 32 6 ∷ [] }) 90
-unfolding run under each header magic version start counts size number here _>>=_ tensor text textLooking shape lengthAt stored blockOf
+unfolding run under each header magic version start counts size number here _>>=_ tensor text textLooking shape lengthsOf lengthAt stored blockOf
 two-tensors = refl
 
 -- 74 bytes, and the data after 96: 20 bytes and 6
 pub two-tensors-1 : wholeOf full 0 [] ([] ∷ [] ∷ []) tensors1 ≡ accepted (record { head = plain 1 2 74 96; entries = []; tensors = flat 20 0 5 0 20 ∷ flat 49 1 3 32 6 ∷ [] }) 74
-unfolding run under each header magic version start counts size number here _>>=_ tensor text textLooking shape lengthAt stored blockOf
+unfolding run under each header magic version start counts size number here _>>=_ tensor text textLooking shape lengthsOf lengthAt stored blockOf
 two-tensors-1 = refl
 
 -- one row is too few, and the place is that of the count
@@ -86,7 +86,7 @@ one-row = refl
 
 -- a byte less, and the last offset is not wholly there
 pub a-byte-less : wholeOf full 0 [] ([] ∷ [] ∷ []) (take 89 tensors3) ≡ refused 1 82
-unfolding run under each header magic version start counts size number here _>>=_ tensor text textLooking shape lengthAt stored blockOf
+unfolding run under each header magic version start counts size number here _>>=_ tensor text textLooking shape lengthsOf lengthAt stored blockOf
 a-byte-less = refl
 
 -- big end first, version 3, no records

@@ -13,7 +13,7 @@ use Rattle.fields.specs.Value.{number}
 use Rattle.fields.proofs.Laws.{run-bind}
 use Rattle.kinds.specs.Shape.{greatest, productOf, productsFit, sizeFits}
 use Rattle.kinds.specs.Table.{knownKind}
-use Rattle.records.specs.Format.{value, lengths, size, textLooking, text, key, type, scalarWidth, valueOf, array, depth, entry, lengthAt, shape, stored, tensor, totalOf}
+use Rattle.records.specs.Format.{value, lengths, size, textLooking, text, key, type, scalarWidth, valueOf, array, depth, entry, lengthAt, lengthsOf, shape, stored, tensor, totalOf}
 use Rattle.header.specs.Format.{littleMagic, bigMagic, olderMagic, magic, knownVersion, version, counts, start}
 use Rattle.header.specs.declared.Rooms.{Rooms}
 use Rattle.records.specs.declared.Dialect.{Dialect}
@@ -126,7 +126,7 @@ module _ (k : Dialect) where
   small-length n i = small-if (ltb i n) (small-number _ _) small-done
 
   small-shape : Small (shape k)
-  unfolding shape
+  unfolding shape lengthsOf
   small-shape =
       small-then small-here (λ p. small-then (small-number _ _) (λ n. small-then (small-check (leb n 4) 10 p (omega arith)) (λ u.
       small-then (small-length n 0) (λ a. small-then (small-length n 1) (λ b. small-then (small-length n 2) (λ c. small-then (small-length n 3) (λ d. small-done)))))))

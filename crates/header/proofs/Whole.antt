@@ -39,7 +39,7 @@ sure-counts rooms k s p =
     sure-here _ (sure-then whatever (λ n q u. sure-here _ (sure-then whatever (λ m r v.
     sure-check (leb n (rooms .tensors)) 6 p _ (λ e. sure-check (leb m (rooms .entries)) 6 q _ (λ f. sure-done (leb-true _ _ f, leb-true _ _ e)))))))
 
-sure-start : (rooms : Rooms) (s : List ℕ) (p : ℕ) → Sure s (start rooms) p (λ c q. Room rooms c)
+pub sure-start : (rooms : Rooms) (s : List ℕ) (p : ℕ) → Sure s (start rooms) p (λ c q. Room rooms c)
 unfolding start
 sure-start rooms s p = sure-then whatever (λ big q u. sure-then whatever (λ k r v. sure-counts rooms k s r))
 

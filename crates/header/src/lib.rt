@@ -201,7 +201,7 @@ fn integer_of(x: Scalar) -> u64
 }
 
 // The alignment that a value gives.
-fn alignment_of(value: Value) -> u64
+pub fn alignment_of(value: Value) -> u64
     ensures { λ r. ⌜ r ≡ format.alignmentOf value ⌝ }
 {
     match value {

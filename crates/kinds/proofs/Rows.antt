@@ -59,6 +59,10 @@ pub bytes-at : (k : ℕ) → getD sizes k 0 ≡ blockOf k .bytes
 unfolding blockOf
 bytes-at k = List·getD-map (λ a. a .bytes) kindTable k noKind
 
+-- a size is a number of 16 bits
+pub size-fits : (k : ℕ) → k < length kindTable → getD sizes k 0 ≤ 65535
+size-fits k h = leb→le (getD sizes k 0) 65535 (at (λ n. leb (getD sizes n 0) 65535) (length kindTable) tt k h)
+
 -- a block is its two numbers
 pub block-is : {n b : ℕ} (a : Block) → n ≡ a .numbers → b ≡ a .bytes → block n b ≡ a
 block-is a e f = rw (e, f)

@@ -32,8 +32,8 @@ pub enum FileKind {
     Unknown,
 }
 
-// The bytes of a block, by kind.
-const TYPE_SIZES: [u64; 40] = [
+// The bytes of a block, by kind: in 16 bits each, since the table is laid out anew at each use.
+const TYPE_SIZES: [u16; 40] = [
     4,
     2,
     18,
@@ -97,7 +97,7 @@ pub fn block_and_type_size(kind: u64) -> Block
     };
     Block {
         numbers,
-        bytes: TYPE_SIZES[kind as usize],
+        bytes: TYPE_SIZES[kind as usize] as u64,
     }
 }
 

@@ -1,9 +1,7 @@
 -- Questions about a header: the value of a key, the string of a key, the file's type. Of equal keys the last decides.
-use Prim.Native.Nat.{ℕ, _+_}
+use Prim.Native.Nat.{ℕ}
 use mathlib.Core.List.{List, [], _∷_}
-use lib.Dec.{leb}
 use lib.IntN.{ℤ, pos, negsuc}
-use lib.ListN.{length}
 use Rattle.fields.specs.Choice.{if_then_else_}
 use Rattle.fields.specs.Reading.{Answer, accepted, refused, run, seen}
 use Rattle.fields.specs.Each.{fold}
@@ -19,7 +17,7 @@ use Rattle.records.specs.declared.Value.{Value}
 use Rattle.records.specs.declared.Value.the-variants.{Single, Text, Array}
 use Rattle.records.specs.declared.Entry.{Entry}
 use Rattle.records.specs.Format.{isWord}
-use Rattle.records.specs.Contents.{bytesAt}
+use Rattle.records.specs.Contents.{bytesAt, insideOf}
 use Rattle.header.specs.declared.Rooms.{Rooms}
 use Rattle.header.specs.Answers.{full}
 use Rattle.header.specs.Format.{header}
@@ -47,10 +45,6 @@ lookupOf (refused n p) = Refused n p
 -- the lookup of a key: the whole header is read, with a cap of 3
 abbrev pub lookup : List ℕ → List ℕ → Lookup
 lookup key s = lookupOf (seen (λ w. fold (sought key s) Missing (w .entries)) (run (under full (header enough 3)) s 0))
-
--- the bytes of a text that is inside, and none of one that is not
-abbrev pub insideOf : List ℕ → Span → List ℕ
-insideOf s a = if leb (a .place + a .len) (length s) then bytesAt s a else []
 
 -- the string of a value; of any other value nothing
 abbrev pub stringIn : List ℕ → Value → List ℕ

@@ -127,22 +127,6 @@ pub fn find(s: &[u8], key: &[u8]) -> Lookup
     }
 }
 
-// The part of s where a text is, and its empty front where that is not inside.
-fn inside(s: &[u8], span: Span) -> &[u8]
-    ensures { λ r. ⌜ now r ≡ questions.insideOf (now (s .entry)) span ⌝ }
-{
-    let place = span.place;
-    let len = span.len;
-    if s.len() < len {
-        return &s[0..0];
-    }
-    if s.len() - len < place {
-        return &s[0..0];
-    }
-    let end = place + len;
-    &s[place..end]
-}
-
 // The string that a lookup found, as the part of the prefix that holds it; an empty part where it found none.
 pub fn string_of(s: &[u8], found: Lookup) -> &[u8]
     ensures { λ r. ⌜ now r ≡ questions.stringOf (now (s .entry)) found ⌝ }
@@ -155,7 +139,7 @@ pub fn string_of(s: &[u8], found: Lookup) -> &[u8]
             match v {
                 Value::Single(_) => &s[0..0],
                 Value::Array(_) => &s[0..0],
-                Value::Text(a) => inside(s, a),
+                Value::Text(a) => records::inside(s, a),
             }
         }
     }

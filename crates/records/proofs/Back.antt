@@ -13,7 +13,7 @@ use Rattle.fields.specs.Choice.{if_then_else_}
 use Rattle.fields.specs.Each.{each, times}
 use Rattle.fields.specs.Pieces.{more}
 use Rattle.fields.specs.Reading.{done}
-use Rattle.records.specs.Format.{value, lengths, sizeWidth, size, textLooking, text, isWord, alignmentKey, tokenizerKey, keyOf, key, type, scalarWidth, scalarOf, valueOf, array, depth, keeping, entry, lengthAt, shape, stored, tensor, totalOf}
+use Rattle.records.specs.Format.{value, lengths, sizeWidth, size, textLooking, text, isWord, alignmentKey, tokenizerKey, keyOf, key, type, scalarWidth, scalarOf, valueOf, array, depth, keeping, entry, lengthAt, lengthsOf, shape, stored, tensor, totalOf}
 use Rattle.fields.specs.Value.{number}
 use Rattle.fields.proofs.Back.{follows, ends, exactly, closes, at-place, nothing-more, marked-then, looking, checked, looked-at, number-back, list-back, items-at, then-shown}
 use Rattle.kinds.specs.Shape.{productOf}
@@ -140,13 +140,19 @@ module _ (k : Dialect) {s : List ℕ} where
   unfolding lengthAt lengthBytes
   length-back n i v fits p = length-cases (ltb i n) v (fits .within) (λ e. fits .beyond (ltb-false i n e)) p
 
+  lengths-back : (x : Shape) → FitsShape x → (p : ℕ) → Back s same (lengthsOf k (x .dimensions)) p
+      (lengthBytes k (x .dimensions) 0 (x .first) ++ (lengthBytes k (x .dimensions) 1 (x .second) ++ (lengthBytes k (x .dimensions) 2 (x .third) ++ lengthBytes k (x .dimensions) 3 (x .fourth)))) x
+  unfolding lengthsOf
+  lengths-back x fits p =
+      let n = x .dimensions in
+      exactly _ (length-back n 0 (x .first) (fits .first) _) (exactly _ (length-back n 1 (x .second) (fits .second) _)
+      (exactly _ (length-back n 2 (x .third) (fits .third) _) (closes _ (length-back n 3 (x .fourth) (fits .fourth) _) (nothing-more refl))))
+
   pub shape-back : (x : Shape) → FitsShape x → (p : ℕ) → Back s same (shape k) p (shapeBytes k x) x
   unfolding shape shapeBytes typeBytes
   shape-back x fits p =
       let n = x .dimensions in
-      simp append-assoc (at-place _ (exactly _ (number-back 4 (k .big) n p (omega (arith, fits .few))) (checked 10 p (le-leb n 4 (fits .few))
-      (exactly _ (length-back n 0 (x .first) (fits .first) _) (exactly _ (length-back n 1 (x .second) (fits .second) _)
-      (exactly _ (length-back n 2 (x .third) (fits .third) _) (closes _ (length-back n 3 (x .fourth) (fits .fourth) _) (nothing-more refl))))))))
+      simp append-assoc (at-place _ (exactly _ (number-back 4 (k .big) n p (omega (arith, fits .few))) (checked 10 p (le-leb n 4 (fits .few)) (lengths-back x fits _))))
 
   pub stored-back : (t o : ℕ) → Within 4 t → Within 8 o → knownKind t ≡ true → (p : ℕ) → Back s same (stored k) p (storedBytes k t o) (record { kind = t; offset = o })
   unfolding stored storedBytes typeBytes

@@ -6,7 +6,7 @@ use mathlib.Core.Bool.{true, false}
 use lib.ListN.{take}
 use Rattle.fields.specs.Each.{each}
 use Rattle.fields.specs.Reading.{place, accepted, refused, run, _>>=_, here}
-use Rattle.records.specs.Format.{value, size, textLooking, text, key, type, scalarWidth, valueOf, array, depth, entry, lengthAt, shape, stored, tensor}
+use Rattle.records.specs.Format.{value, size, textLooking, text, key, type, scalarWidth, valueOf, array, depth, entry, lengthAt, lengthsOf, shape, stored, tensor}
 use Rattle.fields.specs.Value.{number}
 use Rattle.kinds.specs.Table.{blockOf}
 use Rattle.records.specs.declared.Dialect.{Dialect}
@@ -81,10 +81,10 @@ pub a-tensor : run (tensor one-big 5) tensor-b 0 ≡ accepted (record {
   parameters = 3;
   size = 6;
 }) 29
-unfolding run _>>=_ here number size textLooking text lengthAt shape stored tensor blockOf
+unfolding run _>>=_ here number size textLooking text lengthsOf lengthAt shape stored tensor blockOf
 a-tensor = refl
 
 -- after others whose products come to 2 ^ 64 - 3 the total is too great, at the tensor's start
 pub a-total-too-great : run (tensor one-big 18446744073709551613) tensor-b 0 ≡ refused 15 0
-unfolding run _>>=_ here number size textLooking text lengthAt shape stored tensor blockOf
+unfolding run _>>=_ here number size textLooking text lengthsOf lengthAt shape stored tensor blockOf
 a-total-too-great = refl

@@ -8,7 +8,7 @@ use lib.Dec.{leb, eqb, ltb}
 use borrow.Author.Tests.{leb-true, leb-false, le-leb, ltb-true}
 use Rattle.fields.specs.Ceilings.{under, Low}
 use Rattle.fields.specs.Reading.{aKind, Reading, run}
-use Rattle.records.specs.Format.{value, lengths, size, textLooking, text, key, type, scalarWidth, valueOf, array, depth, entry, lengthAt, shape, stored, tensor}
+use Rattle.records.specs.Format.{value, lengths, size, textLooking, text, key, type, scalarWidth, valueOf, array, depth, entry, lengthAt, lengthsOf, shape, stored, tensor}
 use Rattle.fields.proofs.Ceilings.{low-run, low-bind, low-done, low-refuse, low-here, low-field, low-mark, low-number, low-if, low-checked, low-each}
 use Rattle.kinds.specs.Shape.{greatest, productOf, productsFit, sizeFits}
 use Rattle.kinds.specs.Table.{blockOf, knownKind}
@@ -72,11 +72,13 @@ module _ (l : Limits) (k : Dialect) where
   unfolding lengthAt
   low-length n i = low-if l (ltb i n) _ _ (low-number l 8 (k .big)) (low-done l 1)
 
+  low-lengths : (n : ℕ) → Low l (lengthsOf k n)
+  unfolding lengthsOf
+  low-lengths n = low-bind l _ _ (low-length n 0) (λ a. low-bind l _ _ (low-length n 1) (λ b. low-bind l _ _ (low-length n 2) (λ c. low-bind l _ _ (low-length n 3) (λ d. low-done l _))))
+
   pub low-shape : Low l (shape k)
   unfolding shape
-  low-shape =
-      low-bind l _ _ (low-here l) (λ p. low-bind l _ _ (low-number l 4 (k .big)) (λ n. low-checked l (leb n 4) 10 p _ (λ e.
-      low-bind l _ _ (low-length n 0) (λ a. low-bind l _ _ (low-length n 1) (λ b. low-bind l _ _ (low-length n 2) (λ c. low-bind l _ _ (low-length n 3) (λ d. low-done l _)))))))
+  low-shape = low-bind l _ _ (low-here l) (λ p. low-bind l _ _ (low-number l 4 (k .big)) (λ n. low-checked l (leb n 4) 10 p _ (λ e. low-lengths n)))
 
   -- nor what a name or a shape is
   pub under-text : (s : List ℕ) (p : ℕ) → run (under l (text k)) s p ≡ run (text k) s p

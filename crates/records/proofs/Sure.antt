@@ -12,7 +12,7 @@ use Rattle.fields.specs.Ceilings.{within}
 use Rattle.fields.specs.Choice.{if_then_else_}
 use Rattle.fields.specs.Each.{each, times}
 use Rattle.fields.specs.Reading.{Reading, done, refuse, place, known, accepted, run, _>>=_}
-use Rattle.records.specs.Format.{value, lengths, sizeWidth, size, textLooking, text, isWord, alignmentKey, tokenizerKey, keyOf, key, type, scalarWidth, scalarOf, valueOf, array, depth, entry, lengthAt, shape, stored, tensor, totalOf}
+use Rattle.records.specs.Format.{value, lengths, sizeWidth, size, textLooking, text, isWord, alignmentKey, tokenizerKey, keyOf, key, type, scalarWidth, scalarOf, valueOf, array, depth, entry, lengthAt, lengthsOf, shape, stored, tensor, totalOf}
 use Rattle.fields.proofs.Sure.{sure-then, sure-done, sure-refuse, sure-here, sure-mark, sure-check, sure-if, sure-each, sure-field, sure-number, sure-run, items-again, all-map, length-map, sure-so, along-map, map-through}
 use Rattle.kinds.specs.Shape.{greatest, productOf, productsFit, sizeFits}
 use Rattle.kinds.specs.Table.{knownKind}
@@ -126,12 +126,15 @@ module _ (k : Dialect) (s : List ℕ) (bytes : All Byte s) where
       sure-if (ltb i n) _ _ (λ e. sure-so (sure-number s bytes 8 (k .big) p) (λ v q h. record { within = h; beyond = λ g. absurd (omega (arith, ltb-true i n e)) }))
       (λ e. sure-done (record { within = omega arith; beyond = λ g. refl }))
 
+  pub sure-lengths : (n : ℕ) → n ≤ 4 → (p : ℕ) → Sure s (lengthsOf k n) p (λ x q. FitsShape x)
+  unfolding lengthsOf
+  sure-lengths n few p =
+      sure-then (sure-length n 0 p) (λ a r f0. sure-then (sure-length n 1 r) (λ b t f1. sure-then (sure-length n 2 t) (λ c u f2. sure-then (sure-length n 3 u) (λ d v f3.
+      sure-done (record { few = few; first = f0; second = f1; third = f2; fourth = f3 })))))
+
   pub sure-shape : (p : ℕ) → Sure s (shape k) p (λ x q. FitsShape x)
   unfolding shape
-  sure-shape p =
-      sure-here _ (sure-then (sure-number s bytes 4 (k .big) p) (λ n q h. sure-check (leb n 4) 10 p _ (λ e.
-      sure-then (sure-length n 0 q) (λ a r f0. sure-then (sure-length n 1 r) (λ b t f1. sure-then (sure-length n 2 t) (λ c u f2. sure-then (sure-length n 3 u) (λ d v f3.
-      sure-done (record { few = leb-true _ _ e; first = f0; second = f1; third = f2; fourth = f3 }))))))))
+  sure-shape p = sure-here _ (sure-then (sure-number s bytes 4 (k .big) p) (λ n q h. sure-check (leb n 4) 10 p _ (λ e. sure-lengths n (leb-true _ _ e) q)))
 
   pub sure-stored : (p : ℕ) → Sure s (stored k) p (λ y q. Within 4 (y .kind) × Within 8 (y .offset) × (knownKind (y .kind) ≡ true))
   unfolding stored

@@ -1,6 +1,6 @@
 -- The thirteen value types: what holds of each, one by one, holds of every type. Assumes nothing.
 use Prim.Native.Nat.{ℕ, zero, suc, _+_, _-_, _≤_, _<_}
-use mathlib.Core.Path.{_≡_, refl, subst}
+use mathlib.Core.Path.{_≡_, refl, subst, sym}
 use mathlib.Core.Bool.{Bool, true, false}
 use native.Mathlib.Omega.{arith}
 use lib.ListN.{List·getD-eq-default, length, getD}
@@ -32,17 +32,20 @@ below-from P i n all t l h =
     let e : i + (t - i) ≡ t = omega arith in
     subst P e (below (λ k. P (i + k)) n all (t - i) (omega arith))
 
+-- a type above the thirteen has no width
+pub no-width : (t : ℕ) → 12 < t → 0 ≡ scalarWidth t
+unfolding scalarWidth
+no-width t h =
+    let past : length scalarWidths ≤ t = h in
+    sym (List·getD-eq-default scalarWidths 0 past)
+
 -- a type that has a width is one of the thirteen
 pub width-known : (t : ℕ) → 0 < scalarWidth t → t ≤ 12
-unfolding scalarWidth
 width-known t h = by (leb t 12) refl
   where
     by : (b : Bool) → leb t 12 ≡ b → t ≤ 12
     by true e = leb-true t 12 e
-    by false e =
-        let past : length scalarWidths ≤ t = leb-false t 12 e in
-        let none : getD scalarWidths t 0 ≡ 0 = List·getD-eq-default scalarWidths 0 past in
-        absurd (omega arith)
+    by false e = absurd (omega (arith, no-width t (leb-false t 12 e)))
 
 -- a scalar has the type of which it was made
 pub scalar-typed : (t n : ℕ) → t ≤ 12 → 0 < scalarWidth t → scalarType (scalarOf t n) ≡ t

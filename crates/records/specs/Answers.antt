@@ -1,6 +1,10 @@
 -- What the code's answers say: the value with the place after it, or the refusal's number and place.
+use Prim.Native.Nat.{ℕ}
 use mathlib.Core.List.{List}
+use Rattle.fields.specs.Value.{widthOf}
 use Rattle.fields.specs.Reading.{Answer, accepted, refused}
+use Rattle.records.specs.declared.ScalarWidth.{ScalarWidth}
+use Rattle.records.specs.declared.ScalarWidth.the-variants.{Of, None}
 use Rattle.records.specs.declared.Span.{Span}
 use Rattle.records.specs.declared.TextRead.{TextRead}
 use Rattle.records.specs.declared.TextRead.the-variants.{Found as FoundText, Refused as NoText}
@@ -27,6 +31,11 @@ use Rattle.records.specs.declared.StoredRead.the-variants.{Found as Foun
 use Rattle.records.specs.declared.Tensor.{Tensor}
 use Rattle.records.specs.declared.TensorRead.{TensorRead}
 use Rattle.records.specs.declared.TensorRead.the-variants.{Found as FoundTensor, Refused as NoTensor}
+
+-- the bytes of a type: none of one that is no scalar's
+abbrev pub asWidth : ScalarWidth → ℕ
+asWidth (Of w) = widthOf w
+asWidth None = 0
 
 -- a text
 abbrev pub asText : TextRead → Answer Span

@@ -5,7 +5,7 @@ use Prim.Native.Nat.{ℕ, zero, suc, _+_, _^_, _≤_, _<_}
 use mathlib.Core.Path.{_≡_}
 use mathlib.Core.Bool.{Bool, true, false}
 use mathlib.Core.List.{List, [], _∷_, _++_}
-use lib.Dec.{ltb}
+use lib.Dec.{leb, ltb}
 use lib.ListN.{length, take, drop}
 use mir.Syntax.{w8, w16, w32, w64}
 use mir.Val.{ofZ}
@@ -114,6 +114,10 @@ tensorBytes k t = textBytes k (t .name) ++ shapeBytes k (t .shape) ++ storedByte
 
 abbrev pub bytesAt : List ℕ → Span → List ℕ
 bytesAt s a = take (a .len) (drop (a .place) s)
+
+-- the bytes of a text that is inside, and none of one that is not
+abbrev pub insideOf : List ℕ → Span → List ℕ
+insideOf s a = if leb (a .place + a .len) (length s) then bytesAt s a else []
 
 -- a scalar's bits, in its own width
 abbrev pub scalarBits : Scalar → ℕ

@@ -180,17 +180,22 @@ entry k cap = do
 unfoldable pub lengthAt : Dialect → ℕ → ℕ → Reading ℕ
 lengthAt k n i = if ltb i n then number 8 (k .big) else done 1
 
+-- the four lengths of a shape of n dimensions
+unfoldable pub lengthsOf : Dialect → ℕ → Reading Shape
+lengthsOf k n = do
+  a ← lengthAt k n 0
+  b ← lengthAt k n 1
+  c ← lengthAt k n 2
+  d ← lengthAt k n 3
+  done (record { dimensions = n; first = a; second = b; third = c; fourth = d })
+
 -- the count of dimensions, and four lengths
 unfoldable pub shape : Dialect → Reading Shape
 shape k = do
   p ← here
   n ← number 4 (k .big)
   check (leb n 4) 10 p
-  a ← lengthAt k n 0
-  b ← lengthAt k n 1
-  c ← lengthAt k n 2
-  d ← lengthAt k n 3
-  done (record { dimensions = n; first = a; second = b; third = c; fourth = d })
+  lengthsOf k n
 
 abbrev pub lengths : Shape → List ℕ
 lengths x = x .first ∷ x .second ∷ x .third ∷ x .fourth ∷ []

@@ -16,7 +16,8 @@ ghost use Rattle.fields.specs.Each.{times};
 ghost use Rattle.fields.specs.Ceilings.{under};
 ghost use Rattle.fields.specs.Value.{widthOf, number, asNumber};
 ghost use Rattle.records.specs.Format as format;
-ghost use Rattle.records.specs.Answers.{asText, asKey, asPassed, asArray, asValue, asEntry, asShape, asStored, asTensor};
+ghost use Rattle.records.specs.Contents as contents;
+ghost use Rattle.records.specs.Answers.{asWidth, asText, asKey, asPassed, asArray, asValue, asEntry, asShape, asStored, asTensor};
 ghost use Rattle.records.specs.Rows as rows;
 
 // What every record depends on: the file's version and byte order.
@@ -61,6 +62,12 @@ pub enum Scalar {
     U64(u64),
     I64(i64),
     F64(u64),
+}
+
+// The width of a type: of a scalar's only.
+pub enum ScalarWidth {
+    Of { width: Width },
+    None,
 }
 
 // An array: the type of its items, how many there are and how many are kept, and the place of the first.
@@ -209,6 +216,22 @@ pub fn begins_at(s: &[u8], place: usize, word: &[u8]) -> bool
     true
 }
 
+// The part of s where a text is, and its empty front where that is not inside.
+pub fn inside(s: &[u8], span: Span) -> &[u8]
+    ensures { λ r. ⌜ now r ≡ contents.insideOf (now (s .entry)) span ⌝ }
+{
+    let from = span.place;
+    let len = span.len;
+    if s.len() < len {
+        return &s[0..0];
+    }
+    if s.len() - len < from {
+        return &s[0..0];
+    }
+    let end = from + len;
+    &s[from..end]
+}
+
 // Whether a text is "general.alignment".
 fn is_alignment(s: &[u8], span: Span) -> bool
     requires { ⌜ span .place + span .len ≤ length (now s) ⌝ }
@@ -298,7 +321,7 @@ fn signed32(bits: u64) -> i32
 }
 
 // The scalar of a type that bits stand for. Every type that is no other scalar's is read as the last one's.
-fn scalar_of(t: u64, bits: u64) -> Scalar
+pub fn scalar_of(t: u64, bits: u64) -> Scalar
     ensures { λ r. ⌜ r ≡ format.scalarOf t bits ⌝ }
 {
     match t {
@@ -316,16 +339,18 @@ fn scalar_of(t: u64, bits: u64) -> Scalar
     }
 }
 
-// The width of a scalar's type.
-fn scalar_width(t: u64) -> Width
-    requires { ⌜ 0 < format.scalarWidth t ⌝ }
-    ensures { λ r. ⌜ widthOf r ≡ format.scalarWidth t ⌝ }
+// The width of a scalar's type, and that a type is no scalar's.
+pub fn scalar_width(t: u64) -> ScalarWidth
+    ensures { λ r. ⌜ asWidth r ≡ format.scalarWidth t ⌝ }
 {
     match t {
-        0..=1 | 7 => Width::One,
-        2..=3 => Width::Two,
-        4..=6 => Width::Four,
-        _ => Width::Eight,
+        0..=1 | 7 => ScalarWidth::Of { width: Width::One },
+        2..=3 => ScalarWidth::Of { width: Width::Two },
+        4..=6 => ScalarWidth::Of { width: Width::Four },
+        10..=12 => ScalarWidth::Of {
+            width: Width::Eight,
+        },
+        _ => ScalarWidth::None,
     }
 }
 
@@ -334,48 +359,68 @@ fn read_scalar(s: &[u8], at: usize, dialect: Dialect, t: u64) -> Number
     requires { ⌜ 0 < format.scalarWidth t ⌝ }
     ensures { λ r. ⌜ asNumber r ≡ run (number (format.scalarWidth t) (dialect .big)) (now (s .entry)) at ⌝ }
 {
-    fields::number_at(s, at, scalar_width(t), dialect.big)
-}
-
-// An item of the type t, passed. Where it is an array it is refused at o, its item type.
-fn pass_item(s: &[u8], at: usize, dialect: Dialect, t: u64, o: usize) -> Passed
-    requires { ⌜ t ≤ 12 ⌝ }
-    ensures { λ r. ⌜ asPassed r ≡ passed (run (format.valueOf (format.array 0 dialect) dialect o t) (now (s .entry)) at) ⌝ }
-{
-    if t == 9 {
-        return Passed::Refused { why: 9, place: o };
-    }
-    if t == 8 {
-        return match read_string(s, at, dialect) {
-            TextRead::Refused { why, place } => Passed::Refused { why, place },
-            TextRead::Found { span: _, next } => Passed::To { next },
-        };
-    }
-    match read_scalar(s, at, dialect, t) {
-        Number::Refused { why, place } => Passed::Refused { why, place },
-        Number::Value { value: _, next } => Passed::To { next },
+    match scalar_width(t) {
+        ScalarWidth::None => Number::Refused { why: 1, place: at },
+        ScalarWidth::Of { width } => fields::number_at(s, at, width, dialect.big),
     }
 }
 
-// Passes n items of the type t, which stands at o: every one is read.
-fn pass_items(s: &[u8], at: usize, n: u64, dialect: Dialect, t: u64, o: usize) -> Passed
-    requires { ⌜ t ≤ 12 ⌝ }
-    ensures { λ r. ⌜ asPassed r ≡ passed (run (times n (format.valueOf (format.array 0 dialect) dialect o t)) (now (s .entry)) at) ⌝ }
+// Passes n texts: every one is read.
+fn pass_texts(s: &[u8], at: usize, n: u64, dialect: Dialect) -> Passed
+    ensures { λ r. ⌜ asPassed r ≡ passed (run (times n (format.text dialect)) (now (s .entry)) at) ⌝ }
 {
     let mut from = at;
     let mut i: u64 = 0;
     while i < n {
-        match pass_item(s, from, dialect, t, o) {
-            Passed::Refused { why, place } => {
+        match read_string(s, from, dialect) {
+            TextRead::Refused { why, place } => {
                 return Passed::Refused { why, place };
             }
-            Passed::To { next } => {
+            TextRead::Found { span: _, next } => {
                 from = next;
             }
         }
         i += 1;
     }
     Passed::To { next: from }
+}
+
+// Passes n scalars of the type t: every one is read.
+fn pass_scalars(s: &[u8], at: usize, n: u64, dialect: Dialect, t: u64) -> Passed
+    requires { ⌜ 0 < format.scalarWidth t ⌝ }
+    ensures { λ r. ⌜ asPassed r ≡ passed (run (times n (number (format.scalarWidth t) (dialect .big))) (now (s .entry)) at) ⌝ }
+{
+    let mut from = at;
+    let mut i: u64 = 0;
+    while i < n {
+        match read_scalar(s, from, dialect, t) {
+            Number::Refused { why, place } => {
+                return Passed::Refused { why, place };
+            }
+            Number::Value { value: _, next } => {
+                from = next;
+            }
+        }
+        i += 1;
+    }
+    Passed::To { next: from }
+}
+
+// Passes n items of the type t. Where they are arrays the first is refused at o, its item type.
+fn pass_items(s: &[u8], at: usize, n: u64, dialect: Dialect, t: u64, o: usize) -> Passed
+    requires { ⌜ t ≤ 12 ⌝ }
+    ensures { λ r. ⌜ asPassed r ≡ passed (run (times n (format.valueOf (format.array 0 dialect) dialect o t)) (now (s .entry)) at) ⌝ }
+{
+    if t == 8 {
+        return pass_texts(s, at, n, dialect);
+    }
+    if t == 9 {
+        if n == 0 {
+            return Passed::To { next: at };
+        }
+        return Passed::Refused { why: 9, place: o };
+    }
+    pass_scalars(s, at, n, dialect, t)
 }
 
 // An array that is a value's own: its items are no arrays.
@@ -505,18 +550,11 @@ fn read_length(s: &[u8], at: usize, dialect: Dialect, n: u64, i: u64) -> Number
     }
 }
 
-// The count of dimensions, and four lengths.
-fn read_shape(s: &[u8], at: usize, dialect: Dialect) -> ShapeRead
-    ensures { λ r. ⌜ asShape r ≡ run (format.shape dialect) (now (s .entry)) at ⌝ }
+// The four lengths of a shape of n dimensions.
+pub fn read_lengths(s: &[u8], at: usize, dialect: Dialect, n: u64) -> ShapeRead
+    ensures { λ r. ⌜ asShape r ≡ run (format.lengthsOf dialect n) (now (s .entry)) at ⌝ }
 {
-    let Number::Value { value: n, next: p } = fields::number_at(s, at, Width::Four, dialect.big)
-    else {
-        return ShapeRead::Refused { why: 1, place: at };
-    };
-    if 4 < n {
-        return ShapeRead::Refused { why: 10, place: at };
-    }
-    match read_length(s, p, dialect, n, 0) {
+    match read_length(s, at, dialect, n, 0) {
         Number::Refused { why, place } => ShapeRead::Refused { why, place },
         Number::Value { value: a, next: q } => match read_length(s, q, dialect, n, 1) {
             Number::Refused { why, place } => ShapeRead::Refused { why, place },
@@ -538,6 +576,20 @@ fn read_shape(s: &[u8], at: usize, dialect: Dialect) -> ShapeRead
             },
         },
     }
+}
+
+// The count of dimensions, and four lengths.
+fn read_shape(s: &[u8], at: usize, dialect: Dialect) -> ShapeRead
+    ensures { λ r. ⌜ asShape r ≡ run (format.shape dialect) (now (s .entry)) at ⌝ }
+{
+    let Number::Value { value: n, next: p } = fields::number_at(s, at, Width::Four, dialect.big)
+    else {
+        return ShapeRead::Refused { why: 1, place: at };
+    };
+    if 4 < n {
+        return ShapeRead::Refused { why: 10, place: at };
+    }
+    read_lengths(s, p, dialect, n)
 }
 
 // The kind and the offset; the kind is judged once both are read.

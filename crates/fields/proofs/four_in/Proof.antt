@@ -1,20 +1,35 @@
--- `fields::four_in` meets its contract: its bytes one by one, in the order that big says. Assumes nothing.
+-- `fields::four_in` meets its contract: its bytes one by one, with the little end first, and turned round where big says so. Assumes nothing.
 use borrow.Author.Needs.{needs}
+use mathlib.Core.Path.{_≡_, sym, ap, _∙_}
+use mathlib.Core.Bool.{true, false}
 use native.Mathlib.Omega.{arith}
 use denote.Ref.{now}
+use lib.ListN.{take, drop}
+use Rattle.fields.specs.Value.{leValue, value}
+use Rattle.fields.specs.Bytes.{bytesOf}
 use Rattle.fields.proofs.Numbers.{field-bytes}
+use Rattle.fields.proofs.Swaps.{turned-four}
 use Rattle.fields.proofs.four_in.Statement.{statement}
 use Rattle.fields.proofs.four_in.Tie as tie
 
+-- the bytes as they stand, the little end first
+little-end : (c : tie.After-four) →
+    let a = c .before .before .before .before .before .before .args in
+    c .four .result ≡ leValue (take 4 (drop (a .at) (now (a .s))))
+little-end c =
+    let a = c .before .before .before .before .before .before .args in
+    c .four .ensures ∙ ap leValue (sym (field-bytes (now (a .s)) (a .at) 3 (omega arith)))
+
 returns : tie.Need-returns
 returns c =
-    let a = c .before .before .before .before .before .before .before .args in
-    rw (c .before .before .before .before .before .if1 .taken, field-bytes (now (a .s)) (a .at) 3 (omega arith)) (c .four .ensures)
+    let f = c .before .before in
+    let k = f .before .before .before .before .before in
+    let a = k .before .args in
+    rw (c .before .if1 .taken)
+    (c .turned .ensures ∙ ap (λ v. value true (bytesOf false 4 v)) (little-end f) ∙ turned-four (now (a .s)) (λ i. k .shared-slice-known .given i .fits) (a .at) (omega arith))
 
 returns-2 : tie.Need-returns-2
-returns-2 c =
-    let a = c .before .before .before .before .before .before .before .args in
-    rw (c .before .before .before .before .before .if1 .left, field-bytes (now (a .s)) (a .at) 3 (omega arith)) (c .four2 .ensures)
+returns-2 c = rw (c .if1 .left) (little-end (c .before))
 
 pub four-in-spec : {M : Type 1} → statement M
 four-in-spec =
@@ -28,13 +43,6 @@ four-in-spec =
     (λ c. search needs)
     (λ c. search needs)
     (λ c κs. search needs)
-    (λ c. search needs)
-    (λ c. search needs)
-    (λ c. search needs)
-    (λ c. search needs)
-    (λ c. search needs)
-    (λ c. search needs)
-    (λ c. search needs)
     (λ c κs. search needs)
     returns
     returns-2)

@@ -1,4 +1,4 @@
--- `fields::value_in` meets its contract: one byte, four of them, or two halves of one or of four. Assumes nothing.
+-- `fields::value_in` meets its contract: one byte, two halves of one, four bytes or eight. Assumes nothing.
 use borrow.Author.Needs.{needs}
 use Prim.Native.Nat.{_+_, _≤_}
 use mathlib.Core.Path.{_≡_, sym, ap, _∙_}
@@ -16,9 +16,6 @@ one-there c = omega (arith, ap widthOf (c .enum-told .given .1), c .before .befo
 
 two-there : (c : tie.After-enum-told2) → let a = c .before .before .before .args in a .at + 1 + 1 ≤ length (now (a .s))
 two-there c = omega (arith, ap widthOf (c .enum-told2 .given .1), c .before .before .before .pre)
-
-eight-there : (c : tie.After-enum-told4) → let a = c .before .before .before .args in a .at + 4 + 4 ≤ length (now (a .s))
-eight-there c = omega (arith, ap widthOf (c .enum-told4 .given .1), c .before .before .before .pre)
 
 shared-slice-read-result : tie.Need-shared-slice-read-result
 shared-slice-read-result c = omega (arith, one-there (c .before))
@@ -46,11 +43,8 @@ joined-requires c κs =
 four-in-requires : tie.Need-four-in-requires
 four-in-requires c κs = omega (arith, ap widthOf (c .enum-told3 .given .1), c .before .before .before .pre)
 
-four-in-requires-2 : tie.Need-four-in-requires-2
-four-in-requires-2 c κs = omega (arith, eight-there c)
-
-four-in-requires-3 : tie.Need-four-in-requires-3
-four-in-requires-3 c κs = omega (arith, eight-there (c .before))
+eight-in-requires : tie.Need-eight-in-requires
+eight-in-requires c κs = omega (arith, ap widthOf (c .enum-told4 .given .1), c .before .before .before .pre)
 
 returns : tie.Need-returns
 returns c =
@@ -69,11 +63,7 @@ returns-3 : tie.Need-returns-3
 returns-3 c = rw (ap widthOf (c .before .enum-told3 .given .1)) (c .four-in .ensures)
 
 returns-4 : tie.Need-returns-4
-returns-4 c =
-    let w = c .before .before .before in
-    let a = w .before .before .before .args in
-    rw (ap widthOf (w .enum-told4 .given .1), value-halves (now (a .s)) (a .at) 4 (eight-there w) (a .big), ← c .before .before .four-in2 .ensures, ← c .before .four-in3 .ensures)
-    (c .joined2 .ensures)
+returns-4 c = rw (ap widthOf (c .before .enum-told4 .given .1)) (c .eight-in .ensures)
 
 pub value-in-spec : {M : Type 1} → statement M
 value-in-spec =
@@ -93,12 +83,7 @@ value-in-spec =
     four-in-requires
     (λ c. search needs)
     (λ c. search needs)
-    four-in-requires-2
-    (λ c. search needs)
-    (λ c. search needs)
-    four-in-requires-3
-    (λ c. search needs)
-    (λ c κs. search needs)
+    eight-in-requires
     returns
     returns-2
     returns-3

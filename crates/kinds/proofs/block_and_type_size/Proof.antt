@@ -3,7 +3,7 @@
 use mathlib.Core.Logic.{⊎-elim}
 use native.Mathlib.Omega.{arith}
 use Rattle.kinds.specs.Table.{blockOf}
-use Rattle.kinds.proofs.Rows.{Row, range, bytes-at, block-is, past}
+use Rattle.kinds.proofs.Rows.{Row, range, bytes-at, size-fits, block-is, past}
 use Rattle.kinds.proofs.block_and_type_size.Statement.{statement}
 use Rattle.kinds.proofs.block_and_type_size.Tie as tie
 
@@ -24,4 +24,4 @@ returns-2 : tie.Need-returns-2
 returns-2 c = block-is (blockOf (c .before .args .kind)) (met c .numbers) (bytes-at (c .before .args .kind))
 
 pub block-and-type-size-spec : {M : Type 1} → statement M
-block-and-type-size-spec = tie.close (tie.spec returns (λ c. omega (arith, met c .within)) (λ c. met c .within) returns-2)
+block-and-type-size-spec = tie.close (tie.spec returns (λ c. omega (arith, met c .within)) (λ c. met c .within) (λ c. omega (arith, size-fits (c .before .args .kind) (met c .within))) returns-2)

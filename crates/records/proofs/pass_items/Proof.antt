@@ -1,64 +1,60 @@
--- `records::pass_items` meets its contract. The invariant: from here, the items that are left give what all of them do. Assumes nothing.
+-- `records::pass_items` meets its contract: of texts and of scalars the same is kept as of values, and an array is refused where none may stand.
+-- Assumes nothing.
 use borrow.Author.Needs.{needs}
-use Prim.Native.Nat.{_+_, _-_, _≤_, _<_}
+use Prim.Native.Nat.{_-_, _<_}
 use mathlib.Core.Path.{_≡_, refl, sym, ap, _∙_}
 use native.Mathlib.Omega.{arith}
 use native.Mathlib.Nat.{sub-zero}
 use denote.Ref.{now}
-use Rattle.fields.specs.Reading.{run, passed, seen}
-use Rattle.fields.specs.Each.{times}
-use Rattle.fields.proofs.Turns.{times-ends, passed-on, passed-not}
-use Rattle.records.specs.Format.{valueOf, array}
-use Rattle.records.specs.Answers.{asPassed}
+use Rattle.fields.specs.Reading.{refused, run, andThen, seen, passed}
+use Rattle.fields.specs.Each.{each, times}
+use Rattle.fields.specs.Value.{number}
+use Rattle.fields.proofs.Turns.{times-alike, passed-not}
+use Rattle.records.specs.Format.{text, array, valueOf, scalarWidth}
+use Rattle.records.proofs.Types.{scalar-else}
+use Rattle.records.proofs.Items.{value-array, passed-scalar, passed-text}
 use Rattle.records.proofs.pass_items.Statement.{statement}
 use Rattle.records.proofs.pass_items.Tie as tie
 
-abbrev Inv-loop : tie.InvT-loop
-Inv-loop s at n dialect t o from₀ i₀ from i =
-    (i ≤ n)
-    × (passed (run (times n (valueOf (array 0 dialect) dialect o t)) s at) ≡ passed (run (times (n - i) (valueOf (array 0 dialect) dialect o t)) s from))
-
-abbrev μ-loop : tie.MeasureT-loop
-μ-loop s at n dialect t o from₀ i₀ from i = n - i
-
-loop-holds : tie.Need-loop-holds Inv-loop μ-loop
-loop-holds c = (omega arith, rw sub-zero)
-
-returns : tie.Need-returns Inv-loop μ-loop
+returns : tie.Need-returns
 returns c =
-    let u = c .before .before .before in
-    let l = u .before .before .loop in
-    let a = u .before .before .before .before .args in
-    let r = ap asPassed (sym (c .before .why .given .1)) ∙ u .pass-item .ensures in
-    sym (l .inv .1 ∙ passed-not (valueOf (array 0 (a .dialect)) (a .dialect) (a .o) (a .t)) (now (a .s)) (l .from) (a .n) (l .i) (omega arith) r)
-
-loop-again : tie.Need-loop-again Inv-loop μ-loop
-loop-again c =
-    let u = c .before .before .before in
-    let l = u .before .before .loop in
-    let a = u .before .before .before .before .args in
-    let r = ap asPassed (sym (c .before .next .given .1)) ∙ u .pass-item .ensures in
-    (omega arith, l .inv .1 ∙ passed-on (valueOf (array 0 (a .dialect)) (a .dialect) (a .o) (a .t)) (now (a .s)) (l .from) (a .n) (l .i) (omega arith) r)
-
-returns-2 : tie.Need-returns-2 Inv-loop μ-loop
-unfolding seen
-returns-2 c =
-    let l = c .before .loop in
     let a = c .before .before .before .args in
-    sym (l .inv .1 ∙ ap passed (times-ends (valueOf (array 0 (a .dialect)) (a .dialect) (a .o) (a .t)) (now (a .s)) (l .from) (a .n) (l .i) (omega arith)))
+    rw (c .before .if1 .taken)
+    (c .pass-texts .ensures ∙ sym (times-alike (valueOf (array 0 (a .dialect)) (a .dialect) (a .o) 8) (text (a .dialect)) (now (a .s)) (passed-text (array 0 (a .dialect)) (a .dialect) (a .o) (now (a .s))) (a .n) (a .at)))
+
+returns-2 : tie.Need-returns-2
+unfolding each run seen
+returns-2 c = rw (c .if3 .taken) refl
+
+returns-3 : tie.Need-returns-3
+unfolding array run andThen seen
+returns-3 c =
+    let a = c .before .before .before .before .args in
+    let m = valueOf (array 0 (a .dialect)) (a .dialect) (a .o) 9 in
+    let r : refused 9 (a .o) ≡ passed (run m (now (a .s)) (a .at)) = rw value-array in
+    rw (c .before .if2 .taken) (sym (rw sub-zero at (passed-not m (now (a .s)) (a .at) (a .n) 0 (omega arith) r)))
+
+-- what is left is a scalar
+wide : (c : tie.Else2) → 0 < scalarWidth (c .before .before .before .args .t)
+wide c = scalar-else (c .before .before .before .args .t) (c .before .before .before .pre) (c .before .if1 .left) (c .if2 .left)
+
+pass-scalars-requires : tie.Need-pass-scalars-requires
+pass-scalars-requires c κs = wide c
+
+returns-4 : tie.Need-returns-4
+returns-4 c =
+    let a = c .before .before .before .before .args in
+    c .pass-scalars .ensures ∙
+    sym (times-alike (valueOf (array 0 (a .dialect)) (a .dialect) (a .o) (a .t)) (number (scalarWidth (a .t)) (a .dialect .big)) (now (a .s))
+    (passed-scalar (array 0 (a .dialect)) (a .dialect) (a .o) (now (a .s)) (a .t) (wide (c .before))) (a .n) (a .at))
 
 pub pass-items-spec : {M : Type 1} → statement M
 pass-items-spec =
     tie.close
     (tie.spec
-    Inv-loop
-    μ-loop
-    loop-holds
     (λ c κs. search needs)
-    (λ c. search needs)
     returns
-    (λ c. search needs)
-    (λ c. omega arith)
-    (λ c. omega arith)
-    loop-again
-    returns-2)
+    returns-2
+    returns-3
+    pass-scalars-requires
+    returns-4)

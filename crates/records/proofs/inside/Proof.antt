@@ -1,4 +1,4 @@
--- `lookup::inside` meets its contract: the two tests find whether the text ends past the bytes, without a sum that could wrap. Assumes nothing.
+-- `records::inside` meets its contract: the two tests find whether the text ends past the bytes, without a sum that could wrap. Assumes nothing.
 use borrow.Author.Needs.{needs}
 use Prim.Native.Nat.{_+_, _-_}
 use mathlib.Core.Path.{_≡_}
@@ -6,8 +6,8 @@ use native.Mathlib.Omega.{arith}
 use lib.ListN.{length}
 use denote.Ref.{now}
 use borrow.Author.Tests.{lt-leb, le-leb}
-use Rattle.lookup.proofs.inside.Statement.{statement}
-use Rattle.lookup.proofs.inside.Tie as tie
+use Rattle.records.proofs.inside.Statement.{statement}
+use Rattle.records.proofs.inside.Tie as tie
 
 returns : tie.Need-returns
 returns c = let a = c .before .before .args in rw (lt-leb (a .span .place + a .span .len) (length (now (a .s))) (omega arith))
