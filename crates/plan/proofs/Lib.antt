@@ -1,0 +1,7 @@
+pub mod Rooms
+pub mod Counts
+pub mod Sizes
+pub mod Measures
+pub mod Turns
+pub mod Drafts
+pub mod Tests

@@ -1,0 +1,239 @@
+-- How long values of a sheet are as values of a header, from the places between which they stand: their items are not looked at. Assumes nothing.
+use Prim.Native.Nat.{ℕ, zero, suc, _+_, _-_, _*_, _≤_}
+use mathlib.Core.Path.{_≡_, refl, sym, ap, subst, _∙_}
+use mathlib.Core.Bool.{Bool, true, false}
+use mathlib.Core.List.{List}
+use native.Mathlib.Omega.{arith}
+use native.Mathlib.Nat.{suc-mul}
+use lib.Dec.{leb, ltb, eqb}
+use lib.ListN.{length, drop, length-drop}
+use lib.Seq.{length-take-le}
+use borrow.Author.Tests.{eqb-true, eq-eqb, ne-eqb}
+use Rattle.fields.specs.Back.{Sure}
+use Rattle.fields.specs.Bytes.{rows}
+use Rattle.fields.specs.Choice.{if_then_else_}
+use Rattle.fields.specs.Each.{each, times}
+use Rattle.fields.specs.Reading.{Answer, accepted, refused, run, isAccepted}
+use Rattle.fields.specs.Value.{widthOf, number}
+use Rattle.fields.specs.declared.Width.{Width}
+use Rattle.fields.proofs.Sure.{sure-then, sure-done, sure-refuse, sure-here, sure-check, sure-if, sure-field, sure-run, whatever}
+use Rattle.records.specs.declared.Dialect.{Dialect}
+use Rattle.records.specs.Format.{sizeWidth, scalarWidth, depth}
+use Rattle.records.specs.Contents.{Said, Content, one, word, list, saidBytes}
+use Rattle.header.specs.Contents.{alignmentSaid}
+use Rattle.sheet.specs.Format.{Text, text, scalar, itemType, array, item, value}
+use Rattle.sheet.specs.Sheet.{stepOf}
+use Rattle.sheet.specs.declared.Stepped.the-variants.{To}
+use Rattle.sheet.proofs.Items.{has-width, has-none, value-array}
+use Rattle.sheet.proofs.Steps.{step-yes}
+use Rattle.sheet.proofs.Parts.{TextTold, sure-textOf, sure-text, onward}
+use Rattle.plan.specs.Header.{heard}
+use Rattle.plan.proofs.Sizes.{size-cases, one-length, word-length, list-length, rows-more, rows-none}
+
+-- two answers of one run
+pub never-both : {A : Type 0} {r : Answer A} {a : A} {q n p : ℕ} → accepted a q ≡ r → refused n p ≡ r → ⊥
+never-both e f = let z : _≡_ {A = ℕ} 0 1 = cc in omega arith
+
+pub same-answer : {A : Type 0} {r : Answer A} {a b : A} {q o : ℕ} → accepted a q ≡ r → accepted b o ≡ r → (a ≡ b) × (q ≡ o)
+same-answer e f = (cc, cc)
+
+not-both : {b : Bool} → b ≡ true → b ≡ false → ⊥
+not-both e f = let z : _≡_ {A = ℕ} 0 1 = cc in omega arith
+
+-- how much wider a size is in the header, for a text of an array
+abbrev pub wider : Dialect → ℕ → ℕ
+wider k t = if eqb t 8 then sizeWidth k - 4 else 0
+
+-- an array: its type, its count and its items
+pub record ArrayTold (s : List ℕ) (at : ℕ) (c : Content (suc depth)) (e : ℕ) : Type 0 where
+  pub type : ℕ
+  pub after : ℕ
+  pub count : ℕ
+  pub first : ℕ
+  pub items : List (Content depth)
+  pub typed : accepted type after ≡ run (number 1 true) s at
+  pub counted : accepted count first ≡ run (number 4 true) s after
+  pub read : accepted items e ≡ run (times count (item depth type)) s first
+  pub made : c ≡ list type items
+
+-- where an array's items end, and how long it is in the header
+pub record Measured (k : Dialect) (c : Content (suc depth)) (e t n q : ℕ) : Type 0 where
+  pub ends : q ≤ e
+  pub whole : length (saidBytes (suc depth) k c) + q ≡ sizeWidth k + 4 + e + n * wider k t
+  pub few : t ≡ 8 → q + n * 4 ≤ e
+
+-- the types of texts and arrays are no scalar's
+pub not-text : (t : ℕ) → ltb 0 (scalarWidth t) ≡ true → t ≡ 8 → ⊥
+unfolding scalarWidth
+not-text t h e =
+    let f : false ≡ true = rw e at h in
+    let z : _≡_ {A = ℕ} 0 1 = cc in
+    omega arith
+
+no-wider : (k : Dialect) (t : ℕ) → (t ≡ 8 → ⊥) → wider k t ≡ 0
+no-wider k t h = rw (ne-eqb t 8 h)
+
+much-wider : (k : Dialect) (t : ℕ) → eqb t 8 ≡ true → 4 + wider k t ≡ sizeWidth k
+much-wider k t h = rw h (omega (arith, size-cases k .0))
+
+module _ (s : List ℕ) where
+  number-ends : (w : ℕ) (big : Bool) (p : ℕ) → Sure s (number w big) p (λ v q. q ≡ p + w)
+  unfolding number
+  number-ends w big p = sure-field (λ there. refl)
+
+  scalar-ends : (t p : ℕ) → Sure s (scalar t) p (λ v q. q ≡ p + scalarWidth t)
+  unfolding scalar
+  scalar-ends t p = sure-then (number-ends (scalarWidth t) true p) (λ v q h. sure-check (if eqb t 7 then leb v 1 else true) 31 0 _ (λ e. sure-done h))
+
+  -- a text has as many bytes as its place tells
+  text-bytes : {p q : ℕ} {a : Text} → TextTold s p a q → p + length (a .bytes) ≡ q
+  text-bytes {p} {q} {a} h =
+      let n = length-take-le (a .span .len) (drop (a .span .place) s) (rw (length-drop (a .span .place) s) (omega (arith, h .starts, h .ends, h .there))) in
+      omega (arith, h .ends, n, ap length (h .bytes))
+
+  module _ (k : Dialect) where
+    -- an item of an array
+    scalar-item : (t v p : ℕ) {q : ℕ} → ltb 0 (scalarWidth t) ≡ true → q ≡ p + scalarWidth t → (length (saidBytes depth k (one t v)) + p ≡ q + wider k t) × (t ≡ 8 → p + 4 ≤ q)
+    scalar-item t v p i h = (omega (arith, one-length k 0 t v, no-wider k t (not-text t i)), λ e. absurd (not-text t i e))
+
+    text-item : (t p : ℕ) {q : ℕ} {a : Text} → eqb t 8 ≡ true → TextTold s (p + 4) a q → (length (saidBytes depth k (word (a .bytes))) + p ≡ q + wider k t) × (t ≡ 8 → p + 4 ≤ q)
+    text-item t p {a = a} j h = (omega (arith, word-length k 0 (a .bytes), much-wider k t j, text-bytes h), λ e. omega (arith, text-bytes h))
+
+    item-measure : (t p : ℕ) → Sure s (item depth t) p (λ c q. (length (saidBytes depth k c) + p ≡ q + wider k t) × (t ≡ 8 → p + 4 ≤ q))
+    unfolding item array
+    item-measure t p =
+        sure-if (ltb 0 (scalarWidth t)) _ _
+        (λ i. sure-then (scalar-ends t p) (λ v q h. sure-done (scalar-item t v p i h)))
+        (λ i. sure-if (eqb t 8) _ _ (λ j. sure-then (sure-text s p) (λ a q h. sure-done (text-item t p j h))) (λ j. sure-refuse))
+
+    -- so many items
+    items-measure : (n t p : ℕ) → Sure s (times n (item depth t)) p (λ l q. (length (rows (saidBytes depth k) l) + p ≡ q + n * wider k t) × (t ≡ 8 → p + n * 4 ≤ q))
+    unfolding each
+    items-measure zero t p = sure-done (omega (arith, rows-none (saidBytes depth k)), λ e. omega arith)
+    items-measure (suc n) t p =
+        sure-then (item-measure t p) (λ c q h. sure-then (items-measure n t q) (λ l r g. sure-done (
+          omega (arith, rows-more (saidBytes depth k) c l, h .0, g .0, suc-mul n (wider k t)),
+          λ e. omega (arith, h .1 e, g .1 e),
+        )))
+
+    -- a value that is no array
+    plain-measure : (e t p : ℕ) → Sure s (value e t) p (λ c q. (t ≡ 9 → ⊥) → length (saidBytes (suc depth) k c) + p ≡ q + (if eqb t 8 then sizeWidth k else 0))
+    unfolding value
+    plain-measure e t p =
+        sure-if (ltb 0 (scalarWidth t)) _ _
+        (λ i. sure-then (scalar-ends t p) (λ v q h. sure-done (λ other. rw (ne-eqb t 8 (not-text t i)) (omega (arith, one-length k depth t v, h)))))
+        (λ i. sure-if (eqb t 8) _ _
+        (λ j. sure-here _ (sure-then (sure-textOf s (e - p) p) (λ a q h. sure-done (λ other. rw j (omega (arith, word-length k depth (a .bytes), text-bytes h))))))
+        (λ j. sure-if (eqb t 9) _ _ (λ i. record { holds = λ c q h other. absurd (other (eqb-true t 9 i)) }) (λ j. sure-refuse)))
+
+  -- the parts of an array
+  array-told : (at : ℕ) → Sure s (array depth (item depth)) at (ArrayTold s at)
+  unfolding array
+  array-told at =
+      sure-then (sure-run whatever) (λ t p h. sure-check (itemType 0 t) 31 0 _ (λ i. sure-then (sure-run whatever) (λ n q g. sure-then (sure-run whatever) (λ l e f. sure-done (record {
+        type = t;
+        after = p;
+        count = n;
+        first = q;
+        items = l;
+        typed = h .1;
+        counted = g .1;
+        read = f .1;
+        made = refl;
+      })))))
+
+  module _ (at : ℕ) {c : Content (suc depth)} {e : ℕ} (there : accepted c e ≡ run (array depth (item depth)) s at) where
+    pub array-typed : {n p : ℕ} → refused n p ≡ run (number 1 true) s at → ⊥
+    array-typed r = never-both (array-told at .holds c e there .typed) r
+
+    module _ {t p : ℕ} (typed : accepted t p ≡ run (number 1 true) s at) where
+      pub array-counted : {n o : ℕ} → refused n o ≡ run (number 4 true) s p → ⊥
+      array-counted r =
+          let h = array-told at .holds c e there in
+          never-both (subst (λ o. accepted (h .count) (h .first) ≡ run (number 4 true) s o) (same-answer (h .typed) typed .1) (h .counted)) r
+
+      pub array-measure : (k : Dialect) {n q : ℕ} → accepted n q ≡ run (number 4 true) s p → Measured k c e t n q
+      array-measure k {n} {q} counted =
+          let h = array-told at .holds c e there in
+          let a = same-answer (h .typed) typed in
+          let b = same-answer (subst (λ o. accepted (h .count) (h .first) ≡ run (number 4 true) s o) (a .1) (h .counted)) counted in
+          let r : accepted (h .items) e ≡ run (times n (item depth t)) s q = rw (a .0, b .0, b .1) at (h .read) in
+          let m = items-measure k n t q .holds (h .items) e r in
+          let o : c ≡ list t (h .items) = rw (a .0) at (h .made) in
+          record {
+            ends = onward (times n (item depth t)) s q r;
+            whole = rw o (omega (arith, list-length k depth t (h .items), m .0));
+            few = m .1;
+          }
+
+-- what a value is: a scalar that was read, or nothing that gives an alignment
+module _ (s : List ℕ) where
+  pub other-value : (e t p : ℕ) → Sure s (value e t) p (λ c q. ltb 0 (scalarWidth t) ≡ false → alignmentSaid c ≡ 32)
+  unfolding value array
+  other-value e t p =
+      sure-if (ltb 0 (scalarWidth t)) _ _ (λ i. sure-then whatever (λ v q h. sure-done (λ j. absurd (not-both i j))))
+      (λ i. sure-if (eqb t 8) _ _ (λ j. sure-here _ (sure-then whatever (λ a q h. sure-done (λ j. refl))))
+      (λ j. sure-if (eqb t 9) _ _ (λ i. sure-then whatever (λ t q h. sure-check (itemType 0 t) 31 0 _ (λ i. sure-then whatever (λ n q h. sure-then whatever (λ l q h. sure-done (λ j. refl)))))) (λ j. sure-refuse)))
+
+  scalar-read : (t p : ℕ) → Sure s (scalar t) p (λ v q. (o : ℕ) × (accepted v o ≡ run (number (scalarWidth t) true) s p))
+  unfolding scalar
+  scalar-read t p = sure-then (sure-run whatever) (λ v q h. sure-check (if eqb t 7 then leb v 1 else true) 31 0 _ (λ e. sure-done (q, h .1)))
+
+  pub scalar-value : (e t p : ℕ) → Sure s (value e t) p (λ c q. ltb 0 (scalarWidth t) ≡ true → (v : ℕ) × (o : ℕ) × (accepted v o ≡ run (number (scalarWidth t) true) s p) × (c ≡ one t v))
+  unfolding value
+  scalar-value e t p =
+      sure-if (ltb 0 (scalarWidth t)) _ _ (λ i. sure-then (scalar-read t p) (λ v q h. sure-done (λ j. (v, h .0, h .1, refl))))
+      (λ i. record { holds = λ c q r j. absurd (not-both j i) })
+
+-- what is heard of a value that was read
+pub heard-one : {I : Type 0} {r : Answer (Said I)} {c : Said I} {q : ℕ} → accepted c q ≡ r → heard r ≡ c
+heard-one e = ap heard (sym e)
+
+accepted-parts : {A : Type 0} (r : Answer A) → isAccepted r ≡ true → (a : A) × (q : ℕ) × (accepted a q ≡ r)
+accepted-parts (accepted a q) e = (a, q, refl)
+accepted-parts (refused n p) e = let z : _≡_ {A = ℕ} 0 1 = cc in absurd (omega arith)
+
+-- the alignment of a value that was accepted
+module _ (s : List ℕ) (e t at : ℕ) (there : isAccepted (run (value e t) s at) ≡ true) where
+  pub says-nothing : 0 ≡ scalarWidth t → 32 ≡ alignmentSaid (heard (run (value e t) s at))
+  says-nothing none =
+      let r = accepted-parts (run (value e t) s at) there in
+      rw (heard-one (r .2)) (sym (other-value s e t at .holds (r .0) (r .1) (r .2) (has-none t none)))
+
+  module _ (w : Width) (wide : widthOf w ≡ scalarWidth t) where
+    pub scalar-there : {n p : ℕ} → refused n p ≡ run (number (widthOf w) true) s at → ⊥
+    scalar-there missing =
+        let r = accepted-parts (run (value e t) s at) there in
+        let h = scalar-value s e t at .holds (r .0) (r .1) (r .2) (has-width w t wide) in
+        never-both (h .2) (rw wide at missing)
+
+    pub says-scalar : {v q : ℕ} → accepted v q ≡ run (number (widthOf w) true) s at → heard (run (value e t) s at) ≡ one t v
+    says-scalar {v} {q} read =
+        let r = accepted-parts (run (value e t) s at) there in
+        let h = scalar-value s e t at .holds (r .0) (r .1) (r .2) (has-width w t wide) in
+        heard-one (r .2) ∙ h .3 ∙ ap (one t) (same-answer (h .2) (rw wide at read) .0)
+
+-- the sizes, as the code has them
+module _ (s : List ℕ) (k : Dialect) (at : ℕ) where
+  pub array-size : {c : Content (suc depth)} {e t n q : ℕ} → accepted c e ≡ run (array depth (item depth)) s at → Measured k c e t n q
+      → sizeWidth k + 4 + (e - q) + n * wider k t ≡ length (saidBytes (suc depth) k (heard (run (array depth (item depth)) s at)))
+  array-size there m = rw (heard-one there) (omega (arith, m .ends, m .whole))
+
+  module _ {e t : ℕ} (there : To e ≡ stepOf (run (value e t) s at)) where
+    pub text-size : t ≡ 8 → sizeWidth k + (e - at) ≡ length (saidBytes (suc depth) k (heard (run (value e t) s at)))
+    text-size h =
+        let r = step-yes (run (value e t) s at) there in
+        let m = plain-measure s k e t at .holds (r .what) e (r .is) (λ i. omega arith) in
+        let o = onward (value e t) s at (r .is) in
+        rw (heard-one (r .is)) (omega (arith, o, rw (eq-eqb t 8 h) at m))
+
+    pub scalar-size : (t ≡ 8 → ⊥) → (t ≡ 9 → ⊥) → e - at ≡ length (saidBytes (suc depth) k (heard (run (value e t) s at)))
+    scalar-size h i =
+        let r = step-yes (run (value e t) s at) there in
+        let m = plain-measure s k e t at .holds (r .what) e (r .is) i in
+        let o = onward (value e t) s at (r .is) in
+        rw (heard-one (r .is)) (omega (arith, o, rw (ne-eqb t 8 h) at m))
+
+-- a value of the type 9 is an array
+pub value-is-array : (s : List ℕ) (at e t : ℕ) → t ≡ 9 → run (value e t) s at ≡ run (array depth (item depth)) s at
+value-is-array s at e t h = rw h (value-array s at e)

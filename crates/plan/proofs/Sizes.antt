@@ -1,0 +1,110 @@
+-- How many bytes the parts of a header have. Assumes nothing.
+use Prim.Native.Nat.{ℕ, zero, suc, _+_, _*_, _≤_}
+use mathlib.Core.Path.{_≡_, refl, ap, _∙_}
+use mathlib.Core.Bool.{Bool, true, false}
+use mathlib.Core.List.{List, [], _∷_, _++_}
+use native.Mathlib.Omega.{arith}
+use lib.Dec.{eqb, ltb}
+use lib.ListN.{length, length-append}
+use Rattle.fields.specs.Choice.{if_then_else_}
+use Rattle.fields.specs.Bytes.{bytesOf, rows}
+use Rattle.fields.proofs.Bytes.{length-bytesOf}
+use Rattle.records.specs.declared.Dialect.{Dialect}
+use Rattle.records.specs.declared.Shape.{Shape}
+use Rattle.records.specs.Format.{sizeWidth, scalarWidth, depth}
+use Rattle.records.specs.Contents.{Content, one, word, list, Entered, Weight, sizeBytes, textBytes, typeBytes, typeOf, saidBytes, entryBytes, lengthBytes, shapeBytes, storedBytes, tensorBytes}
+use Rattle.header.specs.declared.Start.{Start}
+use Rattle.header.specs.Contents.{Sheet, startBytes, headerBytes}
+
+-- a size has 4 bytes or 8
+pub size-cases : (k : Dialect) → (4 ≤ sizeWidth k) × (sizeWidth k ≤ 8)
+size-cases k = by (eqb (k .version) 1)
+  where
+    by : (b : Bool) → (4 ≤ (if b then 4 else 8)) × ((if b then 4 else 8) ≤ 8)
+    by true = (omega arith, omega arith)
+    by false = (omega arith, omega arith)
+
+module _ (k : Dialect) where
+  pub size-length : (n : ℕ) → length (sizeBytes k n) ≡ sizeWidth k
+  unfolding sizeBytes
+  size-length n = length-bytesOf (k .big) (sizeWidth k) n
+
+  pub type-length : (t : ℕ) → length (typeBytes k t) ≡ 4
+  unfolding typeBytes
+  type-length t = length-bytesOf (k .big) 4 t
+
+  pub text-length : (b : List ℕ) → length (textBytes k b) ≡ sizeWidth k + length b
+  unfolding textBytes
+  text-length b = length-append (sizeBytes k (length b)) b ∙ ap (λ n. n + length b) (size-length (length b))
+
+  pub one-length : (d t v : ℕ) → length (saidBytes (suc d) k (one t v)) ≡ scalarWidth t
+  unfolding saidBytes
+  one-length d t v = length-bytesOf (k .big) (scalarWidth t) v
+
+  pub word-length : (d : ℕ) (b : List ℕ) → length (saidBytes (suc d) k (word b)) ≡ sizeWidth k + length b
+  unfolding saidBytes
+  word-length d b = text-length b
+
+  pub list-length : (d t : ℕ) (l : List (Content d)) → length (saidBytes (suc d) k (list t l)) ≡ sizeWidth k + 4 + length (rows (saidBytes d k) l)
+  unfolding saidBytes
+  list-length d t l =
+      length-append (typeBytes k t ++ sizeBytes k (length l)) (rows (saidBytes d k) l)
+      ∙ ap (λ n. n + length (rows (saidBytes d k) l)) (length-append (typeBytes k t) (sizeBytes k (length l)) ∙ rw (type-length t, size-length (length l)) (omega arith))
+
+  pub entry-length : (e : Entered) → length (entryBytes k e) ≡ sizeWidth k + 4 + length (e .key) + length (saidBytes (suc depth) k (e .said))
+  unfolding entryBytes
+  entry-length e =
+      length-append (textBytes k (e .key) ++ typeBytes k (typeOf (e .said))) (saidBytes (suc depth) k (e .said))
+      ∙ ap (λ n. n + length (saidBytes (suc depth) k (e .said))) (length-append (textBytes k (e .key)) (typeBytes k (typeOf (e .said))) ∙ rw (text-length (e .key), type-length (typeOf (e .said))) (omega arith))
+
+  -- a length of a shape
+  one-more : (n i v : ℕ) → length (lengthBytes k n i v) ≡ (if ltb i n then 8 else 0)
+  unfolding lengthBytes
+  one-more n i v = by (ltb i n)
+    where
+      by : (b : Bool) → length (if b then bytesOf (k .big) 8 v else []) ≡ (if b then 8 else 0)
+      by true = length-bytesOf (k .big) 8 v
+      by false = refl
+
+  eights : (n : ℕ) → n ≤ 4 → 4 + (if ltb 0 n then 8 else 0) + (if ltb 1 n then 8 else 0) + (if ltb 2 n then 8 else 0) + (if ltb 3 n then 8 else 0) ≡ 4 + 8 * n
+  eights zero h = refl
+  eights (suc zero) h = refl
+  eights (suc (suc zero)) h = refl
+  eights (suc (suc (suc zero))) h = refl
+  eights (suc (suc (suc (suc zero)))) h = refl
+  eights (suc (suc (suc (suc (suc n))))) h = absurd (omega arith)
+
+  pub shape-length : (x : Shape) → x .dimensions ≤ 4 → length (shapeBytes k x) ≡ 4 + 8 * x .dimensions
+  unfolding shapeBytes
+  shape-length x few =
+      rw (length-append, length-append, length-append, length-append, type-length, one-more, one-more, one-more, one-more) (eights (x .dimensions) few)
+
+  pub stored-length : (t o : ℕ) → length (storedBytes k t o) ≡ 12
+  unfolding storedBytes
+  stored-length t o = length-append (typeBytes k t) (bytesOf (k .big) 8 o) ∙ rw (type-length t, length-bytesOf (k .big) 8 o)
+
+  pub tensor-length : (t : Weight) → t .shape .dimensions ≤ 4 → length (tensorBytes k t) ≡ sizeWidth k + 16 + 8 * t .shape .dimensions + length (t .name)
+  unfolding tensorBytes
+  tensor-length t few =
+      length-append (textBytes k (t .name) ++ shapeBytes k (t .shape)) (storedBytes k (t .kind) (t .offset))
+      ∙ rw (length-append (textBytes k (t .name)) (shapeBytes k (t .shape)), text-length (t .name), shape-length (t .shape) few, stored-length (t .kind) (t .offset)) (omega arith)
+
+-- what stands before the first record
+pub start-length : (c : Start) → length (startBytes c) ≡ 8 + sizeWidth (c .dialect) + sizeWidth (c .dialect)
+unfolding startBytes
+start-length c =
+    rw (length-append, length-append, length-append, length-bytesOf, length-bytesOf, size-length, size-length)
+
+pub header-length : (k : Dialect) (c : Sheet) → length (headerBytes k c) ≡ 8 + sizeWidth k + sizeWidth k + length (rows (entryBytes k) (c .entries)) + length (rows (tensorBytes k) (c .tensors))
+unfolding headerBytes
+header-length k c =
+    rw (length-append, length-append, start-length)
+
+-- one record more
+pub rows-more : {C : Type 0} (enc : C → List ℕ) (c : C) (cs : List C) → length (rows enc (c ∷ cs)) ≡ length (enc c) + length (rows enc cs)
+unfolding rows
+rows-more enc c cs = length-append (enc c) (rows enc cs)
+
+pub rows-none : {C : Type 0} (enc : C → List ℕ) → length (rows enc []) ≡ 0
+unfolding rows
+rows-none enc = refl

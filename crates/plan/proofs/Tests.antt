@@ -1,0 +1,174 @@
+-- What the tests of a writer say, one after the other, and that a sheet is refused for one reason only. Assumes nothing.
+use Prim.Native.Nat.{ℕ, zero, suc, _+_, _%_, _≤_, _<_}
+use mathlib.Core.Path.{_≡_, refl, sym, ap, _∙_}
+use mathlib.Core.Bool.{Bool, true, false}
+use mathlib.Core.List.{List, [], _∷_, map}
+use native.Mathlib.Omega.{arith}
+use lib.Dec.{eqb}
+use lib.ListN.{length, getD}
+use borrow.Author.Tests.{eq-eqb, ne-eqb, le-leb, lt-leb}
+use Rattle.fields.specs.Choice.{if_then_else_}
+use Rattle.fields.specs.Reading.{Reading, Answer, accepted, refused, run, andThen, isAccepted}
+use Rattle.layout.specs.Layout.{layoutOf}
+use Rattle.records.specs.declared.Dialect.{Dialect}
+use Rattle.sheet.specs.Format.{tensor}
+use Rattle.sheet.specs.declared.Checked.the-variants.{Whole, Bad}
+use Rattle.sheet.specs.Sheet.{consed, asMany, noKey, next, keyOf, isMetadata, goesOn, entriesFrom, tensorsFrom, Records, sheetOf, checkedOf}
+use Rattle.plan.specs.declared.Draft.{Draft}
+use Rattle.plan.specs.declared.SaidAlignment.the-variants.{By, Absent}
+use Rattle.plan.specs.declared.LaidOut.the-variants.{Fits, Refused as NotLaid}
+use Rattle.plan.specs.declared.Planned.{Planned}
+use Rattle.plan.specs.declared.Planned.the-variants.{Refused}
+use Rattle.plan.specs.Header.{saidIn, adds, entriesOf, pieceOf, recordsIn}
+use Rattle.plan.specs.Plan.{isAlignment, canAdd, agrees, laidOf, requireLaid, require, countsFit, draftWith, draftOf, roomed, laid, aligned, formed, planFor}
+use Rattle.plan.proofs.Drafts.{entries-count}
+
+-- A sheet is refused with 31.
+
+then-only : {A B : Type 0} (r : Answer A) (f : A → ℕ → Answer B) {n o : ℕ} → (refused n o ≡ r → n ≡ 31) → ((a : A) (q : ℕ) → refused n o ≡ f a q → n ≡ 31) → refused n o ≡ andThen r f → n ≡ 31
+unfolding andThen
+then-only (accepted a q) f first rest e = rest a q e
+then-only (refused m p) f first rest e = first cc
+
+consed-only : {A : Type 0} (r : Answer A) (p : ℕ) (others : A → ℕ → Answer (List A)) {n o : ℕ} → ((a : A) (q : ℕ) → refused n o ≡ others a q → n ≡ 31) → refused n o ≡ consed r p others → n ≡ 31
+consed-only (accepted a q) p others rest e =
+    then-only (others a q) (λ l o. accepted (a ∷ l) o) (rest a q) (λ l o i. let z : _≡_ {A = ℕ} 0 1 = cc in absurd (omega arith)) e
+consed-only (refused m o) p others rest e = cc
+
+many-only : {S A : Type 0} (more : List ℕ → ℕ → Bool) (m : S → Reading A) (f : S → A → S) (s : List ℕ) (turns : ℕ) (z : S) (p n o : ℕ) → refused n o ≡ asMany more m f turns z s p → n ≡ 31
+unfolding asMany
+many-only more m f s zero z p n o e = let y : _≡_ {A = ℕ} 0 1 = cc in absurd (omega arith)
+many-only {A = A} more m f s (suc turns) z p n o e = by (more s p) e (λ a q. many-only more m f s turns (f z a) q n o)
+  where
+    by : (b : Bool) → refused n o ≡ (if b then consed (run (m z) s p) p (λ a q. asMany more m f turns (f z a) s q) else accepted [] p)
+        → ((a : A) (q : ℕ) → refused n o ≡ asMany more m f turns (f z a) s q → n ≡ 31) → n ≡ 31
+    by true g ih = consed-only (run (m z) s p) p (λ a q. asMany more m f turns (f z a) s q) ih g
+    by false g ih = let y : _≡_ {A = ℕ} 0 1 = cc in absurd (omega arith)
+
+pub sheet-only : (s : List ℕ) {n o : ℕ} → refused n o ≡ sheetOf s → n ≡ 31
+unfolding sheetOf entriesFrom tensorsFrom
+sheet-only s {n} {o} e = by (eqb (getD s 0 0) 1) e
+  where
+    parts : Answer Records
+    parts = andThen (entriesFrom s 1) (λ es q. andThen (tensorsFrom s q) (λ ts e. accepted (record { entries = es; first = q; tensors = ts }) e))
+
+    by : (b : Bool) → refused n o ≡ (if b then parts else refused 31 0) → n ≡ 31
+    by true g =
+        then-only (entriesFrom s 1) _ (many-only isMetadata next keyOf s (length s) noKey 1 n o)
+        (λ es q. then-only (tensorsFrom s q) _ (many-only {S = Unit {0}} goesOn (λ z. tensor) (λ z a. z) s (length s) tt q n o) (λ ts e i. let y : _≡_ {A = ℕ} 0 1 = cc in absurd (omega arith)))
+        g
+    by false g = cc
+
+-- The version, and whether the sheet is well formed.
+
+module _ (k : Dialect) (a room : ℕ) (s : List ℕ) where
+  pub version-none : k .version ≡ 0 → Refused 30 0 ≡ planFor k a room s
+  unfolding planFor
+  version-none e = rw (eq-eqb (k .version) 0 e)
+
+  module _ (some : k .version ≡ 0 → ⊥) where
+    pub version-above : 3 < k .version → Refused 30 0 ≡ planFor k a room s
+    unfolding planFor
+    version-above h = rw (ne-eqb (k .version) 0 some, lt-leb (k .version) 3 h)
+
+    module _ (known : k .version ≤ 3) where
+      by-sheet : formed k a room (sheetOf s) ≡ planFor k a room s
+      unfolding planFor
+      by-sheet = rw (ne-eqb (k .version) 0 some, le-leb (k .version) 3 known)
+
+      bad-cases : (r : Answer Records) {p : ℕ} → r ≡ sheetOf s → Bad p ≡ checkedOf r → Refused 31 p ≡ formed k a room r
+      bad-cases (accepted c e) h i = let z : _≡_ {A = ℕ} 0 1 = cc in absurd (omega arith)
+      bad-cases (refused n o) {p} h i =
+          let j : n ≡ 31 = sheet-only s h in
+          let l : p ≡ o = cc in
+          rw (j, l)
+
+      pub not-formed : {p : ℕ} → Bad p ≡ checkedOf (sheetOf s) → Refused 31 p ≡ planFor k a room s
+      not-formed e = bad-cases (sheetOf s) refl e ∙ by-sheet
+
+      formed-cases : (r : Answer Records) → isAccepted r ≡ true → aligned k a room (recordsIn r) ≡ formed k a room r
+      formed-cases (accepted c e) h = refl
+      formed-cases (refused n o) h = let z : _≡_ {A = ℕ} 0 1 = cc in absurd (omega arith)
+
+      pub well-formed : isAccepted (sheetOf s) ≡ true → aligned k a room (recordsIn (sheetOf s)) ≡ planFor k a room s
+      well-formed h = formed-cases (sheetOf s) h ∙ by-sheet
+
+-- what is counted of a sheet that is well formed
+pub counted : (r : Answer Records) {n m f : ℕ} → Whole n m f ≡ checkedOf r → (isAccepted r ≡ true) × (record { entries = n; tensors = m; first = f; adds = false } ≡ draftWith false (recordsIn r))
+counted (accepted c e) {n} {m} {f} h =
+    let i : n ≡ length (c .entries) = cc in
+    let j : m ≡ length (c .tensors) = cc in
+    let l : f ≡ c .first = cc in
+    (refl, rw (i, j, l))
+counted (refused o p) h = let z : _≡_ {A = ℕ} 0 1 = cc in absurd (omega arith)
+
+-- The alignment.
+
+-- a test that holds lets what follows it through
+tested : (t : Bool) (w p : ℕ) (rest : Planned) → t ≡ true → rest ≡ require t w p rest
+tested t w p rest e = rw e
+
+module _ (k : Dialect) (a room : ℕ) (c : Records) where
+  pub aligned-none : a ≡ 0 → Refused 32 0 ≡ aligned k a room c
+  aligned-none e = rw (eq-eqb a 0 e)
+
+  module _ (some : a ≡ 0 → ⊥) where
+    pub aligned-not : (a % 8 ≡ 0 → ⊥) → Refused 32 0 ≡ aligned k a room c
+    aligned-not h = rw (ne-eqb a 0 some, ne-eqb (a % 8) 0 h)
+
+    module _ (eighth : a % 8 ≡ 0) where
+      agreed : canAdd a (saidIn (c .entries)) ≡ true → agrees a (saidIn (c .entries)) ≡ true → laid k a room c ≡ aligned k a room c
+      agreed f g =
+          tested (agrees a (saidIn (c .entries))) 34 0 (laid k a room c) g
+          ∙ tested (canAdd a (saidIn (c .entries))) 33 0 (require (agrees a (saidIn (c .entries))) 34 0 (laid k a room c)) f
+          ∙ tested (isAlignment a) 32 0 (require (canAdd a (saidIn (c .entries))) 33 0 (require (agrees a (saidIn (c .entries))) 34 0 (laid k a room c))) (rw (ne-eqb a 0 some, eq-eqb (a % 8) 0 eighth))
+
+      module _ {x : ℕ} (said : By x ≡ saidIn (c .entries)) where
+        pub other-said : (x ≡ a → ⊥) → Refused 34 0 ≡ aligned k a room c
+        other-said h = rw (ne-eqb a 0 some, eq-eqb (a % 8) 0 eighth, ← said, ne-eqb x a h)
+
+        pub same-said : x ≡ a → laid k a room c ≡ aligned k a room c
+        same-said h = agreed (ap (canAdd a) (sym said)) (ap (agrees a) (sym said) ∙ eq-eqb x a h)
+
+      module _ (said : Absent ≡ saidIn (c .entries)) where
+        pub said-default : a ≡ 32 → laid k a room c ≡ aligned k a room c
+        said-default h = agreed (ap (canAdd a) (sym said) ∙ rw (eq-eqb a 32 h)) (ap (agrees a) (sym said))
+
+        pub cannot-add : (a ≡ 32 → ⊥) → 4294967295 < a → Refused 33 0 ≡ aligned k a room c
+        cannot-add other h = rw (ne-eqb a 0 some, eq-eqb (a % 8) 0 eighth, ← said, ne-eqb a 32 other, lt-leb a 4294967295 h)
+
+        pub can-add : (a ≡ 32 → ⊥) → a ≤ 4294967295 → laid k a room c ≡ aligned k a room c
+        can-add other h = agreed (ap (canAdd a) (sym said) ∙ rw (ne-eqb a 32 other, le-leb a 4294967295 h)) (ap (agrees a) (sym said))
+
+  -- what a draft of it is
+  pub drafted : {d : Draft} {b : Bool} → d ≡ draftWith b c → adds a (saidIn (c .entries)) ≡ b → d ≡ draftOf a c
+  drafted e f = e ∙ ap (λ t. draftWith t c) (sym f)
+
+  pub said-adds : {x : ℕ} → By x ≡ saidIn (c .entries) → adds a (saidIn (c .entries)) ≡ false
+  said-adds e = ap (adds a) (sym e)
+
+  pub default-adds : Absent ≡ saidIn (c .entries) → a ≡ 32 → adds a (saidIn (c .entries)) ≡ false
+  default-adds e h = ap (adds a) (sym e) ∙ rw (eq-eqb a 32 h)
+
+  pub other-adds : Absent ≡ saidIn (c .entries) → (a ≡ 32 → ⊥) → adds a (saidIn (c .entries)) ≡ true
+  other-adds e h = ap (adds a) (sym e) ∙ rw (ne-eqb a 32 h)
+
+  -- The tensors and the counts.
+
+  pub not-laid : {w i : ℕ} → NotLaid w i ≡ laidOf (layoutOf a (map pieceOf (c .tensors))) → Refused w i ≡ laid k a room c
+  not-laid e = ap (λ y. requireLaid y (require (countsFit k (length (entriesOf a (c .entries))) (length (c .tensors))) 37 0 (roomed k a room c))) e
+
+  module _ (fits : Fits ≡ laidOf (layoutOf a (map pieceOf (c .tensors)))) where
+    all-laid : require (countsFit k (length (entriesOf a (c .entries))) (length (c .tensors))) 37 0 (roomed k a room c) ≡ laid k a room c
+    all-laid = ap (λ y. requireLaid y (require (countsFit k (length (entriesOf a (c .entries))) (length (c .tensors))) 37 0 (roomed k a room c))) fits
+
+    counts-told : {d : Draft} → d ≡ draftOf a c → countsFit k (d .entries + (if d .adds then 1 else 0)) (d .tensors) ≡ countsFit k (length (entriesOf a (c .entries))) (length (c .tensors))
+    counts-told e =
+        ap (λ (y : Draft). countsFit k (y .entries + (if y .adds then 1 else 0)) (y .tensors)) e ∙ ap (λ n. countsFit k n (length (c .tensors))) (sym (entries-count a (c .entries)))
+
+    module _ {d : Draft} (told : d ≡ draftOf a c) where
+      pub too-many : countsFit k (d .entries + (if d .adds then 1 else 0)) (d .tensors) ≡ false → Refused 37 0 ≡ laid k a room c
+      too-many h = ap (λ t. require t 37 0 (roomed k a room c)) (sym h ∙ counts-told told) ∙ all-laid
+
+      pub few-enough : countsFit k (d .entries + (if d .adds then 1 else 0)) (d .tensors) ≡ true → roomed k a room c ≡ laid k a room c
+      few-enough h = ap (λ t. require t 37 0 (roomed k a room c)) (sym h ∙ counts-told told) ∙ all-laid

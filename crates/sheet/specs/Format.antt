@@ -1,0 +1,158 @@
+-- The record sheet's entries, as programs of fields. Every number has its big end first, and lengths come before what they measure.
+--
+-- A program here reads what an entry says, as contents, and where its parts are. Whatever is not well formed is refused; the sheet tells it as
+-- refusal 31 at the start of the entry, so that no number or place of a refusal inside an entry matters.
+use Prim.Native.Nat.{ℕ, zero, suc, _+_, _-_, _^_}
+use mathlib.Core.Bool.{Bool, true}
+use mathlib.Core.List.{List}
+use lib.Dec.{leb, ltb, eqb}
+use Rattle.fields.specs.Choice.{if_then_else_}
+use Rattle.fields.specs.Reading.{Reading, done, refuse, field, _>>=_, _>>_, here, check}
+use Rattle.fields.specs.Each.{times}
+use Rattle.fields.specs.Value.{number}
+use Rattle.records.specs.declared.Dialect.{Dialect}
+use Rattle.records.specs.declared.Span.{Span}
+use Rattle.records.specs.declared.Shape.{Shape}
+use Rattle.records.specs.Format.{scalarWidth, depth, lengthsOf}
+use Rattle.records.specs.Contents.{Said, one, word, list, Content, Entered}
+use Rattle.sheet.specs.declared.EntryParts.{EntryParts}
+use Rattle.sheet.specs.declared.TensorParts.{TensorParts}
+
+-- what is not well formed
+abbrev pub bad : {A : Type 0} → Reading A
+bad = refuse 31 0
+
+-- goes on where the test holds
+abbrev pub must : Bool → Reading (Unit {0})
+must test = check test 31 0
+
+-- n bytes, all of them
+unfoldable pub bytes : ℕ → Reading (List ℕ)
+bytes n = field n n (λ bs. done bs)
+
+-- bytes, and where they are
+pub record Text : Type 0 where
+  pub span : Span
+  pub bytes : List ℕ
+
+-- a text of n bytes, which is not too long
+unfoldable pub textOf : ℕ → Reading Text
+textOf n = do
+  must (leb n (2 ^ 30))
+  p ← here
+  b ← bytes n
+  done (record { span = record { place = p; len = n }; bytes = b })
+
+-- a length and a text
+unfoldable pub text : Reading Text
+text = do
+  n ← number 4 true
+  textOf n
+
+-- a scalar of the type t: a bool is 0 or 1
+unfoldable pub scalar : ℕ → Reading ℕ
+scalar t = do
+  v ← number (scalarWidth t) true
+  must (if eqb t 7 then leb v 1 else true)
+  done v
+
+-- whether an array's items may be of the type t, where d arrays may still stand in it
+abbrev pub itemType : ℕ → ℕ → Bool
+itemType d t = if eqb t 9 then ltb 0 d else leb t 12
+
+-- an array: its item type, its count and its items, in which fewer than d arrays may stand in one another
+unfoldable pub array : (d : ℕ) → (ℕ → Reading (Content d)) → Reading (Said (Content d))
+array zero item = bad
+array (suc d) item = do
+  t ← number 1 true
+  must (itemType d t)
+  n ← number 4 true
+  l ← times n (item t)
+  done (list t l)
+
+-- an item of the type t: a scalar, a text with its length, or an array
+unfoldable pub item : (d : ℕ) → ℕ → Reading (Content d)
+item zero t = bad
+item (suc d) t =
+    if ltb 0 (scalarWidth t) then (do
+      v ← scalar t
+      done (one t v))
+    else if eqb t 8 then (do
+      a ← text
+      done (word (a .bytes)))
+    else array d (item d)
+
+-- the value of the type t of an entry that ends at e: a scalar, a string, which is all that is left, or an array
+unfoldable pub value : ℕ → ℕ → Reading (Content (suc depth))
+value e t =
+    if ltb 0 (scalarWidth t) then (do
+      v ← scalar t
+      done (one t v))
+    else if eqb t 8 then (do
+      p ← here
+      a ← textOf (e - p)
+      done (word (a .bytes)))
+    else if eqb t 9 then array depth (item depth)
+    else bad
+
+-- an entry's length and its tag: where the entry ends
+unfoldable pub opening : ℕ → Reading ℕ
+opening tag = do
+  n ← number 4 true
+  p ← here
+  t ← number 1 true
+  must (eqb t tag)
+  done (p + n)
+
+-- an entry of that tag: what inner reads up to its end, and that nothing is left of it
+unfoldable pub framed : {A : Type 0} → ℕ → (ℕ → Reading A) → Reading A
+framed tag inner = do
+  e ← opening tag
+  a ← inner e
+  q ← here
+  must (eqb q e)
+  done a
+
+-- a metadata entry: what it says, and where its key and its value are
+pub record Line : Type 0 where
+  pub entered : Entered
+  pub parts : EntryParts
+
+-- a key, a type and a value
+unfoldable pub keyed : ℕ → Reading Line
+keyed e = do
+  a ← text
+  t ← number 1 true
+  p ← here
+  c ← value e t
+  done (record { entered = record { key = a .bytes; said = c }; parts = record { key = a .span; form = t; value = p } })
+
+unfoldable pub metadata : Reading Line
+metadata = framed 1 keyed
+
+-- the byte order of the sheet's own numbers; its version does not matter
+abbrev pub bigEnd : Dialect
+bigEnd = record { version = 3; big = true }
+
+-- the count of dimensions, and four lengths
+unfoldable pub shape : Reading Shape
+shape = do
+  n ← number 1 true
+  must (leb n 4)
+  lengthsOf bigEnd n
+
+-- a tensor: its name, and where that is; its kind and its shape
+pub record Drawn : Type 0 where
+  pub name : List ℕ
+  pub parts : TensorParts
+
+-- a name, a kind and a shape
+unfoldable pub drawn : Reading Drawn
+drawn = do
+  a ← text
+  k ← number 4 true
+  x ← shape
+  done (record { name = a .bytes; parts = record { name = a .span; kind = k; shape = x } })
+
+unfoldable pub tensor : Reading Drawn
+tensor = framed 2 (λ e. drawn)

@@ -1,0 +1,139 @@
+-- A record sheet: the version byte 1, the metadata entries with their keys in order, and the tensors, used up exactly.
+use Prim.Native.Nat.{ℕ, zero, suc, _+_}
+use mathlib.Core.Bool.{Bool, true, false}
+use mathlib.Core.List.{List, [], _∷_}
+use lib.Dec.{leb, ltb, eqb}
+use lib.ListN.{length, getD}
+use Rattle.fields.specs.Choice.{if_then_else_}
+use Rattle.fields.specs.Order.{before}
+use Rattle.fields.specs.Reading.{Reading, done, Answer, accepted, refused, run, _>>=_, _>>_, andThen}
+use Rattle.records.specs.declared.Shape.{Shape}
+use Rattle.records.specs.declared.Span.{Span}
+use Rattle.records.specs.Contents.{insideOf}
+use Rattle.sheet.specs.Format.{must, Text, Line, metadata, Drawn, tensor}
+use Rattle.sheet.specs.declared.Stepped.{Stepped}
+use Rattle.sheet.specs.declared.Stepped.the-variants.{To, Bad}
+use Rattle.sheet.specs.declared.Opened.{Opened}
+use Rattle.sheet.specs.declared.Opened.the-variants.{Body, Bad as NotOpened}
+use Rattle.sheet.specs.declared.Before.{Before}
+use Rattle.sheet.specs.declared.Before.the-variants.{None, At}
+use Rattle.sheet.specs.declared.TextFound.{TextFound}
+use Rattle.sheet.specs.declared.TextFound.the-variants.{Found as FoundText, Bad as NoText}
+use Rattle.sheet.specs.declared.ShapeFound.{ShapeFound}
+use Rattle.sheet.specs.declared.ShapeFound.the-variants.{Found as FoundShape, Bad as NoShape}
+use Rattle.sheet.specs.declared.EntryFound.{EntryFound}
+use Rattle.sheet.specs.declared.EntryFound.the-variants.{Found as FoundEntry, Bad as NoEntry}
+use Rattle.sheet.specs.declared.TensorFound.{TensorFound}
+use Rattle.sheet.specs.declared.TensorFound.the-variants.{Found as FoundTensor, Bad as NoTensor}
+use Rattle.sheet.specs.declared.Counted.{Counted}
+use Rattle.sheet.specs.declared.Counted.the-variants.{Counts, Bad as BadEntry}
+use Rattle.sheet.specs.declared.Checked.{Checked}
+use Rattle.sheet.specs.declared.Checked.the-variants.{Whole, Bad as BadAt}
+
+-- one more, where it could be read, and those after it; the first that could not is refusal 31 at its start
+abbrev pub consed : {A : Type 0} → Answer A → ℕ → (A → ℕ → Answer (List A)) → Answer (List A)
+consed (accepted a q) p rest = andThen (rest a q) (λ l e. accepted (a ∷ l) e)
+consed (refused n o) p rest = refused 31 p
+
+-- entries from the place p on, as long as `more` says that one follows, each given the state that those before it made. Every entry has five
+-- bytes at least, so that as many turns as there are bytes are enough
+unfoldable pub asMany : {S A : Type 0} → (List ℕ → ℕ → Bool) → (S → Reading A) → (S → A → S) → ℕ → S → List ℕ → ℕ → Answer (List A)
+asMany more m f zero z s p = accepted [] p
+asMany more m f (suc turns) z s p =
+    if more s p then consed (run (m z) s p) p (λ a q. asMany more m f turns (f z a) s q)
+    else accepted [] p
+
+-- the key before an entry's, if there is one
+pub data Last : Type 0 where
+  noKey : Last
+  lastKey : List ℕ → Last
+
+-- keys ascend strictly by their bytes
+abbrev pub follows : Last → List ℕ → Bool
+follows noKey key = true
+follows (lastKey last) key = before last key
+
+-- the key before, from its place in the sheet
+abbrev pub lastIn : List ℕ → Before → Last
+lastIn s None = noKey
+lastIn s (At span) = lastKey (insideOf s span)
+
+-- a metadata entry after that key
+unfoldable pub next : Last → Reading Line
+next last = do
+  e ← metadata
+  must (follows last (e .entered .key))
+  done e
+
+abbrev pub keyOf : Last → Line → Last
+keyOf last e = lastKey (e .entered .key)
+
+-- whether the entry at p has the tag of metadata
+abbrev pub isMetadata : List ℕ → ℕ → Bool
+isMetadata s p = eqb (getD s (p + 4) 0) 1
+
+-- whether the sheet goes on at p
+abbrev pub goesOn : List ℕ → ℕ → Bool
+goesOn s p = ltb p (length s)
+
+-- the metadata entries from p on
+unfoldable pub entriesFrom : List ℕ → ℕ → Answer (List Line)
+entriesFrom s p = asMany isMetadata next keyOf (length s) noKey s p
+
+-- the tensors from p on, up to the sheet's end
+unfoldable pub tensorsFrom : List ℕ → ℕ → Answer (List Drawn)
+tensorsFrom s p = asMany {S = Unit {0}} goesOn (λ z. tensor) (λ z a. z) (length s) tt s p
+
+-- what a sheet says, and where its tensors begin
+pub record Records : Type 0 where
+  pub entries : List Line
+  pub first : ℕ
+  pub tensors : List Drawn
+
+-- the meaning of a sheet, or refusal 31 at its first bad entry, and at 0 for another version
+unfoldable pub sheetOf : List ℕ → Answer Records
+sheetOf s =
+    if eqb (getD s 0 0) 1 then andThen (entriesFrom s 1) (λ es q. andThen (tensorsFrom s q) (λ ts e. accepted (record { entries = es; first = q; tensors = ts }) e))
+    else refused 31 0
+
+-- What the code's answers say.
+
+-- where an entry's body begins, after its tag, and where it ends, which is inside the sheet
+abbrev pub openedOf : ℕ → Answer ℕ → Opened
+openedOf len (accepted e q) = if leb e len then Body q e else NotOpened
+openedOf len (refused n p) = NotOpened
+
+-- the place after what could be read, or that it could not
+abbrev pub stepOf : {A : Type 0} → Answer A → Stepped
+stepOf (accepted a q) = To q
+stepOf (refused n p) = Bad
+
+-- a text's place, and the place after it
+abbrev pub spanOf : Answer Text → TextFound
+spanOf (accepted a q) = FoundText (a .span) q
+spanOf (refused n p) = NoText
+
+-- the parts of an entry, and the place after it
+abbrev pub entryOf : Answer Line → EntryFound
+entryOf (accepted e q) = FoundEntry (e .parts) q
+entryOf (refused n p) = NoEntry
+
+-- a shape, and the place after it
+abbrev pub shapeOf : Answer Shape → ShapeFound
+shapeOf (accepted x q) = FoundShape x q
+shapeOf (refused n p) = NoShape
+
+-- the parts of a tensor, and the place after it
+abbrev pub tensorOf : Answer Drawn → TensorFound
+tensorOf (accepted t q) = FoundTensor (t .parts) q
+tensorOf (refused n p) = NoTensor
+
+-- how many there are, and the place after them; or the first that is bad
+abbrev pub countOf : {A : Type 0} → Answer (List A) → Counted
+countOf (accepted l q) = Counts (length l) q
+countOf (refused n p) = BadEntry p
+
+-- how many metadata entries and how many tensors there are, and where the tensors begin; or the first entry that is bad
+abbrev pub checkedOf : Answer Records → Checked
+checkedOf (accepted c e) = Whole (length (c .entries)) (length (c .tensors)) (c .first)
+checkedOf (refused n p) = BadAt p

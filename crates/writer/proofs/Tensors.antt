@@ -1,0 +1,156 @@
+-- Tensors written one after the other, each at the offset where the one before it left off. Assumes nothing.
+use Prim.Native.Nat.{ℕ, suc, _+_, _-_, _≤_, _<_}
+use mathlib.Core.Path.{_≡_, refl, sym, ap, _∙_}
+use mathlib.Core.Bool.{Bool, true, false}
+use mathlib.Core.List.{List, [], _∷_, _++_, map}
+use native.Mathlib.Omega.{arith}
+use native.Mathlib.Numerals.{add-one}
+use borrow.Author.Tests.{le-leb}
+use lib.Dec.{ltb}
+use lib.ListN.{length, length-append}
+use borrow.Rule.Slice.PartMut.{midOf, putMid}
+use Rattle.fields.specs.Back.{got}
+use Rattle.fields.specs.Bytes.{bytesOf, rows, Wrote}
+use Rattle.fields.specs.Choice.{if_then_else_}
+use Rattle.fields.specs.Each.{times}
+use Rattle.fields.specs.Reading.{accepted, refused, run, isAccepted}
+use Rattle.fields.proofs.Bytes.{length-bytesOf}
+use Rattle.fields.proofs.Turns.{times-accepted, times-never, times-ends}
+use Rattle.layout.specs.declared.Laid.{Laid}
+use Rattle.layout.specs.declared.Placed.the-variants.{At, Refused}
+use Rattle.layout.specs.Layout.{Layout, laidOut, refusedAt, ahead, nothingLaid, placeOf, layoutFrom, layoutOf}
+use Rattle.layout.proofs.Places.{layout-stops, layout-goes-on, placed-by}
+use Rattle.records.specs.declared.Dialect.{Dialect}
+use Rattle.records.specs.declared.Shape.{Shape}
+use Rattle.records.specs.declared.Span.{Span}
+use Rattle.records.specs.Format.{sizeWidth, lengths}
+use Rattle.records.specs.Contents.{Weight, bytesAt, insideOf, lengthBytes, shapeBytes, storedBytes, typeBytes, textBytes, tensorBytes}
+use Rattle.sheet.specs.declared.TensorParts.{TensorParts}
+use Rattle.sheet.specs.Format.{Drawn, tensor}
+use Rattle.sheet.proofs.Parts.{tensor-told}
+use Rattle.plan.specs.declared.LaidOut.the-variants.{Fits}
+use Rattle.plan.specs.Header.{pieceOf, weightAt, laidWith, weightsFrom}
+use Rattle.plan.specs.Plan.{laidOf}
+use Rattle.plan.proofs.Sizes.{type-length, text-length}
+use Rattle.writer.specs.Output.{lengthSize, shapeSize}
+use Rattle.writer.proofs.Rows.{got-turn}
+use Rattle.writer.proofs.Loops.{Part, part-start, part-turn, part-end, part-room}
+
+-- how many bytes a tensor has
+module _ (k : Dialect) where
+  length-cases : (b : Bool) (v : ℕ) → length (if b then bytesOf (k .big) 8 v else []) ≡ (if b then 8 else 0)
+  length-cases true v = length-bytesOf (k .big) 8 v
+  length-cases false v = refl
+
+  one-length : (n i v : ℕ) → length (lengthBytes k n i v) ≡ lengthSize n i
+  unfolding lengthBytes
+  one-length n i v = length-cases (ltb i n) v
+
+  pub shape-length : (x : Shape) → length (shapeBytes k x) ≡ shapeSize (x .dimensions)
+  unfolding shapeBytes
+  shape-length x =
+      let n = x .dimensions in
+      rw (length-append, length-append, length-append, length-append, type-length k n, one-length n 0 (x .first), one-length n 1 (x .second), one-length n 2 (x .third), one-length n 3 (x .fourth))
+
+  pub tensor-length : (w : Weight) → length (tensorBytes k w) ≡ sizeWidth k + length (w .name) + shapeSize (w .shape .dimensions) + 12
+  unfolding tensorBytes storedBytes
+  tensor-length w =
+      rw (length-append, length-append, length-append, text-length k (w .name), shape-length (w .shape), type-length k (w .kind), length-bytesOf (k .big) 8 (w .offset))
+
+-- the name of a tensor is what stands at its place
+pub name-stands : (s : List ℕ) (p : ℕ) {t : Drawn} {q : ℕ} → accepted t q ≡ run tensor s p → insideOf s (t .parts .name) ≡ t .name
+name-stands s p {t} {q} e =
+    let h = tensor-told s p e in
+    rw (le-leb _ _ (h .there)) (h .name)
+
+module _ (k : Dialect) (a : ℕ) (s : List ℕ) (m : ℕ) where
+  -- the tensors that are left, and their bytes
+  abbrev leftFrom : ℕ → ℕ → List Drawn
+  leftFrom i from = got (run (times (m - i) tensor) s from)
+
+  abbrev bytesFrom : ℕ → ℕ → Laid → List ℕ
+  bytesFrom i from laid = rows (tensorBytes k) (weightsFrom a laid (leftFrom i from))
+
+  -- how far the loop is
+  pub record Going (o out : List ℕ) (at from : ℕ) (laid : Laid) (i : ℕ) (whole : List ℕ) : Type 0 where
+    pub below : i ≤ m
+    pub all : isAccepted (run (times (m - i) tensor) s from) ≡ true
+    pub fits : Fits ≡ laidOf (layoutFrom a laid i (map pieceOf (leftFrom i from)))
+    pub part : Part o out at (bytesFrom i from laid) whole
+
+  -- at the start all is left
+  pub going-start : (o : List ℕ) (first : ℕ) → isAccepted (run (times m tensor) s first) ≡ true → Fits ≡ laidOf (layoutOf a (map pieceOf (got (run (times m tensor) s first))))
+      → Going o o 0 first nothingLaid 0 (rows (tensorBytes k) (weightsFrom a nothingLaid (got (run (times m tensor) s first))))
+  going-start o first all fits =
+      let z : m - 0 ≡ m = omega arith in
+      record { below = omega arith; all = rw z all; fits = rw z fits; part = rw z (part-start o (rows (tensorBytes k) (weightsFrom a nothingLaid (got (run (times m tensor) s first))))) }
+
+  ahead-fits : (o : ℕ) (l : Layout) → Fits ≡ laidOf (ahead o l) → Fits ≡ laidOf l
+  ahead-fits o (laidOut os x) e = refl
+  ahead-fits o (refusedAt w i) e = e
+
+  module _ {o out : List ℕ} {at from : ℕ} {laid : Laid} {i : ℕ} {whole : List ℕ} (g : Going o out at from laid i whole) where
+    pub going-none : i < m → {w p : ℕ} → refused w p ≡ run tensor s from → ⊥
+    going-none below e = times-never tensor s from m i below e (g .all)
+
+    -- at the end nothing is
+    pub going-end : m ≤ i → Wrote whole o out at
+    unfolding rows
+    going-end done = part-end (g .part) (ap (λ r. rows (tensorBytes k) (weightsFrom a laid (got r))) (times-ends tensor s from m i done))
+
+    pub going-within : length whole ≤ length o → at ≤ length out
+    going-within room = let r = part-room (g .part) room in omega arith
+
+    module _ (below : i < m) {t : Drawn} {q : ℕ} (e : accepted t q ≡ run tensor s from) where
+      next-left : leftFrom i from ≡ t ∷ leftFrom (i + 1) q
+      next-left = got-turn tensor s from m i below e (g .all)
+
+      going-refused : {w : ℕ} → placeOf a laid (lengths (t .parts .shape)) (t .parts .kind) ≡ Refused w → ⊥
+      going-refused r =
+          let f = rw (next-left, layout-stops a laid i (pieceOf t) (map pieceOf (leftFrom (i + 1) q)) r) at (g .fits) in
+          let z : _≡_ {A = ℕ} 0 1 = cc in
+          omega arith
+
+      bytes-left : bytesFrom i from laid ≡ tensorBytes k (weightAt t (laid .next)) ++ bytesFrom (i + 1) q (laidWith a laid t)
+      unfolding rows
+      bytes-left = ap (λ l. rows (tensorBytes k) (weightsFrom a laid l)) next-left
+
+      own-room : length whole ≤ length o → at + (sizeWidth k + length (t .name) + shapeSize (t .parts .shape .dimensions) + 12) ≤ length out
+      own-room room =
+          let r = part-room (g .part) room in
+          let b = ap length bytes-left ∙ length-append (tensorBytes k (weightAt t (laid .next))) _ in
+          let c = tensor-length k (weightAt t (laid .next)) in
+          omega arith
+
+      goes-on : {offset size : ℕ} {after : Laid} → placeOf a laid (lengths (t .parts .shape)) (t .parts .kind) ≡ At offset size after
+          → (ys : List ℕ) (n : ℕ) → Wrote (tensorBytes k (weightAt t offset)) (midOf at (length out - at) out) ys n → length ys ≡ length (midOf at (length out - at) out)
+          → Going o (putMid at (length out - at) out ys) (at + n) q after (i + 1) whole
+      goes-on {offset} {size} {after} r ys n w same =
+          let p = placed-by a laid (lengths (t .parts .shape)) (t .parts .kind) r in
+          let f = rw (next-left, layout-goes-on a laid i (pieceOf t) (map pieceOf (leftFrom (i + 1) q)) r) at (g .fits) in
+          record {
+            below = omega arith;
+            all = times-accepted tensor s from m i below e (g .all);
+            fits = ahead-fits offset (layoutFrom a after (suc i) (map pieceOf (leftFrom (i + 1) q))) f ∙ ap (λ j. laidOf (layoutFrom a after j (map pieceOf (leftFrom (i + 1) q)))) (sym (add-one i));
+            part = rw (p .then) (part-turn _ _ ys n (g .part) bytes-left (rw (p .offset) at w) same);
+          }
+
+      -- the same, as the code has its parts x and the bytes b of its name
+      module _ (x : TensorParts) (told : x ≡ t .parts) where
+        placed-alike : placeOf a laid (lengths (t .parts .shape)) (t .parts .kind) ≡ placeOf a laid (lengths (x .shape)) (x .kind)
+        placed-alike = ap (λ (y : TensorParts). placeOf a laid (lengths (y .shape)) (y .kind)) (sym told)
+
+        pub never-refused : {w : ℕ} → placeOf a laid (lengths (x .shape)) (x .kind) ≡ Refused w → ⊥
+        never-refused r = going-refused (placed-alike ∙ r)
+
+        module _ (b : List ℕ) (named : b ≡ t .name) where
+          pub going-room : length whole ≤ length o → at + (sizeWidth k + length b + shapeSize (x .shape .dimensions) + 12) ≤ length out
+          going-room room = rw (named, told) (own-room room)
+
+          written-alike : {offset : ℕ} → _≡_ {A = Weight} (record { name = b; shape = x .shape; kind = x .kind; offset = offset }) (weightAt t offset)
+          written-alike = rw (named, told)
+
+          pub going-on : {offset size : ℕ} {after : Laid} → placeOf a laid (lengths (x .shape)) (x .kind) ≡ At offset size after
+              → (ys : List ℕ) (n : ℕ) → Wrote (tensorBytes k (record { name = b; shape = x .shape; kind = x .kind; offset = offset })) (midOf at (length out - at) out) ys n
+              → length ys ≡ length (midOf at (length out - at) out) → Going o (putMid at (length out - at) out ys) (at + n) q after (i + 1) whole
+          going-on r ys n w same = goes-on (placed-alike ∙ r) ys n (rw written-alike at w) same

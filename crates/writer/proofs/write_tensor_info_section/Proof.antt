@@ -1,0 +1,141 @@
+-- `writer::write_tensor_info_section` meets its contract: each turn writes the tensor that stands next in the sheet at the next offset, and a
+-- tensor that can't be laid was refused before. Assumes nothing.
+use borrow.Author.Needs.{needs}
+use Prim.Native.Nat.{_+_, _-_, _≤_}
+use mathlib.Core.Path.{_≡_, refl, sym, ap, _∙_}
+use native.Mathlib.Omega.{arith}
+use denote.Ref.{now}
+use lib.ListN.{length, length-take, length-drop}
+use Rattle.fields.specs.Back.{got}
+use Rattle.fields.specs.Bytes.{rows}
+use Rattle.fields.specs.Each.{times}
+use Rattle.fields.specs.Reading.{run}
+use Rattle.layout.specs.Layout.{nothingLaid}
+use Rattle.records.specs.Format.{sizeWidth}
+use Rattle.sheet.specs.declared.TensorParts.{TensorParts}
+use Rattle.records.specs.Contents.{insideOf, tensorBytes}
+use Rattle.sheet.specs.Format.{Drawn, tensor}
+use Rattle.sheet.proofs.Steps.{Shows, tensor-no, tensor-yes}
+use Rattle.plan.specs.Header.{weightsFrom}
+use Rattle.writer.specs.Output.{shapeSize}
+use Rattle.writer.proofs.Tensors.{Going, going-start, going-none, going-end, going-within, never-refused, going-room, going-on, name-stands}
+use Rattle.writer.proofs.write_tensor_info_section.Statement.{statement}
+use Rattle.writer.proofs.write_tensor_info_section.Tie as tie
+
+abbrev Inv-loop : tie.InvT-loop
+Inv-loop out₀ s first m alignment dialect from₀ laid₀ done₀ i₀ out from laid done i =
+    Going dialect alignment s m out₀ out done from laid i (rows (tensorBytes dialect) (weightsFrom alignment nothingLaid (got (run (times m tensor) s first))))
+
+abbrev μ-loop : tie.MeasureT-loop
+μ-loop out₀ s first m alignment dialect from₀ laid₀ done₀ i₀ out from laid done i = m - i
+
+-- the tensor that stands next
+found : (c : tie.After-parts Inv-loop μ-loop) →
+    let a = c .before .before .before .before .before .before .before .args in
+    Shows (λ (t : Drawn). t .parts) (c .parts .given .0 .0) (c .parts .given .0 .1 .0) (run tensor (now (a .s)) (c .before .before .before .before .loop .from))
+found c =
+    let a = c .before .before .before .before .before .before .before .args in
+    tensor-yes (run tensor (now (a .s)) (c .before .before .before .before .loop .from)) (sym (c .parts .given .1) ∙ c .before .before .tensor-at .ensures)
+
+-- the name that is written is its own
+named : (c : tie.After-inside Inv-loop μ-loop) → now (c .inside .result) ≡ found (c .before .before .before .before .before .before .before .before .before) .what .name
+named c =
+    let f = found (c .before .before .before .before .before .before .before .before .before) in
+    let s = now (c .before .before .before .before .before .before .before .before .before .before .before .before .before .before .before .before .args .s) in
+    c .inside .ensures ∙ ap (λ (x : TensorParts). insideOf s (x .name)) (f .told) ∙ name-stands s (c .before .before .before .before .before .before .before .before .before .before .before .before .before .loop .from) (f .is)
+
+-- there is room for it
+room : (c : tie.After-inside Inv-loop μ-loop) →
+    c .before .before .before .before .before .before .before .before .before .before .before .before .before .loop .done + (sizeWidth (c .before .before .before .before .before .before .before .before .before .before .before .before .before .before .before .before .args .dialect) + length (now (c .inside .result)) + shapeSize (c .before .before .before .before .before .before .before .before .before .parts .given .0 .0 .shape .dimensions) + 12) ≤ length (c .before .before .before .before .before .before .before .before .before .before .before .before .before .loop .out)
+room c =
+    let f = found (c .before .before .before .before .before .before .before .before .before) in
+    going-room _ _ _ _ (c .before .before .before .before .before .before .before .before .before .before .before .before .before .loop .inv) (c .before .before .before .before .before .before .before .before .before .before .before .before .loop-test .taken) (f .is) _ (f .told) _ (named c) (c .before .before .before .before .before .before .before .before .before .before .before .before .before .before .before .before .pre .1 .1)
+
+loop-holds : tie.Need-loop-holds Inv-loop μ-loop
+loop-holds c =
+    let a = c .before .before .args in
+    let p = c .before .before .pre in
+    going-start (a .dialect) (a .alignment) (now (a .s)) (a .m) (now (a .out)) (a .first) (p .0) (p .1 .0)
+
+enum-told : tie.Need-enum-told Inv-loop μ-loop
+enum-told c = search needs
+
+same-length : tie.Need-same-length Inv-loop μ-loop
+same-length c = c .before .before .before .before .loop .inv .part .same
+
+returns : tie.Need-returns Inv-loop μ-loop
+returns c =
+    let a = c .before .before .before .before .before .before .before .args in
+    let l = c .before .before .before .before .loop in
+    let r = tensor-no (run tensor (now (a .s)) (l .from)) (sym (c .enum-told .given .1) ∙ c .before .before .tensor-at .ensures) in
+    absurd (going-none _ _ _ _ (l .inv) (c .before .before .before .loop-test .taken) (r .is))
+
+same-length-2 : tie.Need-same-length-2 Inv-loop μ-loop
+same-length-2 c = c .before .before .before .before .before .before .before .before .loop .inv .part .same
+
+returns-2 : tie.Need-returns-2 Inv-loop μ-loop
+returns-2 c =
+    let f = found (c .before .before .before .before) in
+    let l = c .before .before .before .before .before .before .before .before .loop in
+    absurd (never-refused _ _ _ _ (l .inv) (c .before .before .before .before .before .before .before .loop-test .taken) (f .is) _ (f .told) (sym (c .before .before .lay .ensures) ∙ c .enum-told2 .given .1))
+
+sub-write-tensor-info : tie.Need-sub-write-tensor-info Inv-loop μ-loop
+sub-write-tensor-info c = omega (arith, going-within _ _ _ _ (c .before .before .before .before .before .before .before .before .before .before .before .loop .inv) (c .before .before .before .before .before .before .before .before .before .before .before .before .before .before .pre .1 .1))
+
+part-write-tensor-info-start : tie.Need-part-write-tensor-info-start Inv-loop μ-loop
+part-write-tensor-info-start c = omega (arith, going-within _ _ _ _ (c .before .before .before .before .before .before .before .before .before .before .before .loop .inv) (c .before .before .before .before .before .before .before .before .before .before .before .before .before .before .pre .1 .1))
+
+part-write-tensor-info-end : tie.Need-part-write-tensor-info-end Inv-loop μ-loop
+part-write-tensor-info-end c = omega (arith, going-within _ _ _ _ (c .before .before .before .before .before .before .before .before .before .before .before .loop .inv) (c .before .before .before .before .before .before .before .before .before .before .before .before .before .before .pre .1 .1))
+
+write-tensor-info-requires : tie.Need-write-tensor-info-requires Inv-loop μ-loop
+write-tensor-info-requires c κs = simp (length-take, length-drop) (omega (arith, room c))
+
+add-done : tie.Need-add-done Inv-loop μ-loop
+add-done c = omega (arith, room (c .before .before .before), c .before .before .write-tensor-info .ensures .0, c .before .before .before .before .before .before .before .before .before .before .before .before .before .before .before .before .loop .inv .part .same, c .before .before .before .before .before .before .before .before .before .before .before .before .before .before .before .before .before .before .before .good, c .before .before .before .before .before .before .before .before .before .before .before .before .before .before .before .before .before .before .before .fits)
+
+add-i : tie.Need-add-i Inv-loop μ-loop
+add-i c = omega (arith, c .before .before .before .before .before .before .before .before .before .before .before .before .before .before .before .before .before .before .before .fits)
+
+loop-again : tie.Need-loop-again Inv-loop μ-loop
+loop-again c =
+    let x = c .before .before .before in
+    let f = found (c .before .before .before .before .before .before .before .before .before .before .before .before) in
+    let p = sym (c .before .before .before .before .before .before .before .before .before .before .lay .ensures) ∙ c .before .before .before .before .before .before .before .before .offset .given .1 in
+    let w = c .before .before .write-tensor-info in
+    going-on _ _ _ _ (c .before .before .before .before .before .before .before .before .before .before .before .before .before .before .before .before .loop .inv) (c .before .before .before .before .before .before .before .before .before .before .before .before .before .before .before .loop-test .taken) (f .is) _ (f .told) _ (named x) p _ _ (w .ensures .1) (w .kept .0)
+
+same-length-3 : tie.Need-same-length-3 Inv-loop μ-loop
+same-length-3 c = c .before .loop .inv .part .same
+
+returns-3 : tie.Need-returns-3 Inv-loop μ-loop
+returns-3 c = going-end _ _ _ _ (c .before .loop .inv) (omega arith)
+
+pub write-tensor-info-section-spec : {M : Type 1} → statement M
+write-tensor-info-section-spec =
+    tie.close
+    (tie.spec
+    Inv-loop
+    μ-loop
+    loop-holds
+    (λ c κs. search needs)
+    (λ c. search needs)
+    enum-told
+    same-length
+    returns
+    (λ c κs. search needs)
+    (λ c. search needs)
+    (λ c. search needs)
+    same-length-2
+    returns-2
+    sub-write-tensor-info
+    part-write-tensor-info-start
+    part-write-tensor-info-end
+    (λ c κs. search needs)
+    write-tensor-info-requires
+    add-done
+    add-i
+    (λ c. search needs)
+    loop-again
+    same-length-3
+    returns-3)

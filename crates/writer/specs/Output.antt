@@ -1,0 +1,54 @@
+-- What a writer answers, and what it leaves of its output.
+use Prim.Native.Nat.{ℕ, suc, _+_, _-_}
+use mathlib.Core.List.{List, [], _∷_, _++_}
+use lib.Dec.{ltb}
+use lib.ListN.{drop, replicate}
+use Rattle.fields.specs.Choice.{if_then_else_}
+use Rattle.fields.specs.Order.{before}
+use Rattle.fields.specs.Reading.{Answer, accepted, refused}
+use Rattle.records.specs.declared.Dialect.{Dialect}
+use Rattle.records.specs.Format.{alignmentKey}
+use Rattle.header.specs.Contents.{headerBytes}
+use Rattle.sheet.specs.Format.{Line}
+use Rattle.sheet.specs.Sheet.{sheetOf}
+use Rattle.plan.specs.declared.Draft.{Draft}
+use Rattle.plan.specs.declared.Planned.{Planned}
+use Rattle.plan.specs.declared.Planned.the-variants.{Fine, Refused}
+use Rattle.plan.specs.Header.{sheetFor, recordsIn}
+use Rattle.writer.specs.declared.HeaderWritten.{HeaderWritten}
+use Rattle.writer.specs.declared.HeaderWritten.the-variants.{Written, Refused as NotWritten}
+
+-- where the header ends and where its data starts, or the refusal
+abbrev pub writtenOf : Planned → HeaderWritten
+writtenOf (Fine plan) = Written (plan .end) (plan .start)
+writtenOf (Refused n p) = NotWritten n p
+
+-- the bytes of the header of a sheet
+unfoldable pub headerFor : Dialect → ℕ → List ℕ → List ℕ
+headerFor k a s = headerBytes k (sheetFor a (recordsIn (sheetOf s)))
+
+-- the output then: the header, zeros up to the start of its data, and what was there after that; at a refusal all is as it was
+abbrev pub leftBy : Planned → List ℕ → List ℕ → List ℕ
+leftBy (Fine plan) bytes old = bytes ++ replicate (plan .start - plan .end) 0 ++ drop (plan .start) old
+leftBy (Refused n p) bytes old = old
+
+-- how many entries a header has, the added one included
+abbrev pub entryCount : Draft → ℕ
+entryCount d = if d .adds then d .entries + 1 else d .entries
+
+-- the bytes of the length at the place i of n, and of a whole shape of n dimensions
+abbrev pub lengthSize : ℕ → ℕ → ℕ
+lengthSize n i = if ltb i n then 8 else 0
+
+abbrev pub shapeSize : ℕ → ℕ
+shapeSize n = 4 + lengthSize n 0 + lengthSize n 1 + lengthSize n 2 + lengthSize n 3
+
+-- a number that was read; of none, 0
+abbrev pub numberIn : Answer ℕ → ℕ
+numberIn (accepted v q) = v
+numberIn (refused n p) = 0
+
+-- how many entries stand before the place of the alignment's own
+abbrev pub comingBefore : List Line → ℕ
+comingBefore [] = 0
+comingBefore (e ∷ es) = if before alignmentKey (e .entered .key) then 0 else suc (comingBefore es)
