@@ -1,0 +1,63 @@
+-- The answer of `read` to what was written, field by field: it is what reads back, with the counts. Assumes nothing.
+use Prim.Native.Nat.{ℕ, _^_, _<_}
+use mathlib.Core.Path.{_≡_, refl, sym, ap, _∙_}
+use mathlib.Core.List.{List, _++_, map}
+use native.Mathlib.Omega.{arith}
+use lib.ListN.{length}
+use Rattle.fields.specs.Back.{All, Byte}
+use Rattle.fields.specs.Reading.{Answer, accepted, refused, seen}
+use Rattle.fields.proofs.Sure.{length-map}
+use Rattle.records.specs.declared.Dialect.{Dialect}
+use Rattle.records.specs.Contents.{enteredOf, weightOf}
+use Rattle.header.specs.declared.Header.{Header}
+use Rattle.header.specs.Answers.{full, wholeOf}
+use Rattle.header.specs.Contents.{Told, toldIn, dialectOf}
+use Rattle.header.specs.Format.{Whole}
+use Rattle.writer.specs.declared.HeaderWritten.the-variants.{Written}
+use Rattle.promises.specs.Back.{answerFor, outputFor, contentsFor, Enough}
+use Rattle.promises.proofs.Back.{written-reads-back}
+use Rattle.promises.proofs.Sizes.{counts-read}
+
+-- a header as it is told, with the counts of its lists
+abbrev headOf : Told → Header
+headOf t = record {
+  version = t .dialect .version;
+  big = t .dialect .big;
+  entries = length (t .sheet .entries);
+  tensors = length (t .sheet .tensors);
+  alignment = t .alignment;
+  end = t .end;
+  start = t .start;
+}
+
+-- of what is read, it is the header that is answered
+head-told : (s : List ℕ) (w : Whole) → (w .head .entries ≡ length (w .entries)) × (w .head .tensors ≡ length (w .tensors)) → w .head ≡ headOf (toldIn s w)
+head-told s w counts =
+    let e : w .head .entries ≡ length (map (enteredOf (dialectOf w) s) (w .entries)) = counts .0 ∙ sym (length-map (enteredOf (dialectOf w) s) (w .entries)) in
+    let t : w .head .tensors ≡ length (map (weightOf s) (w .tensors)) = counts .1 ∙ sym (length-map (weightOf s) (w .tensors)) in
+    rw (← e, ← t)
+
+told-head : (cap : ℕ) (es ts : List (List ℕ)) (s : List ℕ) (x : Answer Whole) → x ≡ wholeOf full cap es ts s → {t : Told} {q : ℕ} → seen (toldIn s) x ≡ accepted t q
+    → seen (λ (w : Whole). w .head) x ≡ accepted (headOf t) q
+unfolding seen
+told-head cap es ts s (accepted w o) e {t} {q} h =
+    let is : toldIn s w ≡ t = cc in
+    let at : o ≡ q = cc in
+    let head : w .head ≡ headOf t = head-told s w (counts-read full cap es ts s e) ∙ ap headOf is in
+    rw (head, at)
+told-head cap es ts s (refused n p) e h = let z : _≡_ {A = ℕ} 0 1 = cc in absurd (omega arith)
+
+-- for any record sheet, version, byte order, alignment and output, where the header was written: its version and byte order, its counts, the alignment, its end and its start
+pub written-answer : (k : Dialect) (a : ℕ) (s out : List ℕ) → All Byte s → length out < 2 ^ 64 → {end start : ℕ} → Written end start ≡ answerFor k a s out
+    → (cap : ℕ) (es ts : List (List ℕ)) → Enough a s es ts → (r : List ℕ)
+    → seen (λ (w : Whole). w .head) (wholeOf full cap es ts (outputFor k a s out ++ r)) ≡ accepted (record {
+      version = k .version;
+      big = k .big;
+      entries = length (contentsFor a s .entries);
+      tensors = length (contentsFor a s .tensors);
+      alignment = a;
+      end = end;
+      start = start;
+    }) end
+written-answer k a s out bytes small wrote cap es ts rows r =
+    told-head cap es ts (outputFor k a s out ++ r) (wholeOf full cap es ts (outputFor k a s out ++ r)) refl (written-reads-back k a s out bytes small wrote cap es ts rows r)

@@ -1,0 +1,97 @@
+-- The keys of a header that was written ascend strictly, the added one in its place. Assumes nothing.
+use Prim.Native.Nat.{ℕ, _≤_}
+use mathlib.Core.Path.{_≡_, refl, sym, ap, subst}
+use mathlib.Core.Bool.{Bool, true, false}
+use mathlib.Core.List.{List, [], _∷_, map}
+use native.Mathlib.Omega.{arith}
+use borrow.Author.Tests.{ltb-false, lt-ltb, le-ltb, eqb-true, eqb-false, eq-eqb}
+use lib.Dec.{ltb, eqb}
+use lib.ListN.{length}
+use Rattle.fields.specs.Back.{All}
+use Rattle.fields.specs.Choice.{if_then_else_}
+use Rattle.fields.specs.Order.{before}
+use Rattle.fields.proofs.Sure.{all-map}
+use Rattle.records.specs.declared.Dialect.{Dialect}
+use Rattle.records.specs.Format.{isWord, alignmentKey}
+use Rattle.records.specs.Contents.{Entered}
+use Rattle.sheet.specs.Format.{Line}
+use Rattle.sheet.proofs.Whole.{Ascending, sheet-ascending}
+use Rattle.plan.specs.Header.{saidIn, adds, alignmentEntry, inserted, enteredIn, entriesWith, entriesOf, sheetFor, recordsIn}
+use Rattle.writer.specs.declared.HeaderWritten.the-variants.{Written}
+use Rattle.writer.proofs.Planned.{planned-by}
+use Rattle.promises.specs.Back.{answerFor, contentsFor}
+use Rattle.promises.proofs.Said.{none-said, was-absent}
+use Rattle.promises.proofs.Back.{wrote-plan}
+
+-- of two texts that differ, one comes before the other
+comes-after : (x y : List ℕ) → before x y ≡ false → (y ≡ x → ⊥) → before y x ≡ true
+comes-after [] [] e differ = absurd (differ refl)
+comes-after [] (b ∷ y) e differ = let z : _≡_ {A = ℕ} 0 1 = cc in absurd (omega arith)
+comes-after (a ∷ x) [] e differ = refl
+comes-after (a ∷ x) (b ∷ y) e differ = by (ltb a b) (eqb a b) refl refl e (λ f g. comes-after x y f g)
+  where
+    by : (l q : Bool) → ltb a b ≡ l → eqb a b ≡ q → (if l then true else if q then before x y else false) ≡ false → (before x y ≡ false → (y ≡ x → ⊥) → before y x ≡ true)
+        → before (b ∷ y) (a ∷ x) ≡ true
+    by true q i j f next = let z : _≡_ {A = ℕ} 0 1 = cc in absurd (omega arith)
+    by false true i j f next =
+        let same : a ≡ b = eqb-true a b j in
+        let other : y ≡ x → ⊥ = λ g. differ (let h : _≡_ {A = List ℕ} (b ∷ y) (a ∷ x) = cc in h) in
+        rw (le-ltb b a (omega arith), eq-eqb b a (sym same), next f other)
+    by false false i j f next =
+        let low : b ≤ a = ltb-false a b i in
+        let apart : a ≡ b → ⊥ = eqb-false a b j in
+        rw (lt-ltb b a (omega arith))
+
+-- a key that is not the alignment's
+abbrev Other : Entered → Type 0
+Other e = isWord alignmentKey (e .key) ≡ false
+
+-- and does not come after that one comes before it
+other-before : (key : List ℕ) → isWord alignmentKey key ≡ false → before alignmentKey key ≡ false → before key alignmentKey ≡ true
+other-before key other e =
+    comes-after alignmentKey key e (λ same.
+    let word : isWord alignmentKey key ≡ true = subst (λ l. isWord alignmentKey l ≡ true) (sym same) refl in
+    let z : _≡_ {A = ℕ} 0 1 = cc in
+    omega arith)
+
+abbrev keyIn : Entered → List ℕ
+keyIn e = e .key
+
+-- after a key that comes before it
+inserted-after : (a : ℕ) (key : List ℕ) (es : List Entered) → before key alignmentKey ≡ true → All Other es → Ascending (key ∷ map keyIn es) → Ascending (key ∷ map keyIn (inserted a es))
+inserted-after a key [] h others up = (h, tt)
+inserted-after a key (e ∷ es) h others up = by (before alignmentKey (e .key)) refl (λ g. inserted-after a (e .key) es g (others .1) (up .1))
+  where
+    by : (b : Bool) → before alignmentKey (e .key) ≡ b → (before (e .key) alignmentKey ≡ true → Ascending (e .key ∷ map keyIn (inserted a es)))
+        → Ascending (key ∷ map keyIn (if b then alignmentEntry a ∷ e ∷ es else e ∷ inserted a es))
+    by true i next = (h, (i, up .1))
+    by false i next = (up .0, next (other-before (e .key) (others .0) i))
+
+inserted-ascends : (a : ℕ) (es : List Entered) → All Other es → Ascending (map keyIn es) → Ascending (map keyIn (inserted a es))
+inserted-ascends a [] others up = tt
+inserted-ascends a (e ∷ es) others up = by (before alignmentKey (e .key)) refl
+  where
+    by : (b : Bool) → before alignmentKey (e .key) ≡ b → Ascending (map keyIn (if b then alignmentEntry a ∷ e ∷ es else e ∷ inserted a es))
+    by true i = (i, up)
+    by false i = inserted-after a (e .key) es (other-before (e .key) (others .0) i) (others .1) up
+
+same-keys : (es : List Line) → map keyIn (map enteredIn es) ≡ map (λ (e : Line). e .entered .key) es
+same-keys [] = refl
+same-keys (e ∷ es) = ap (λ l. e .entered .key ∷ l) (same-keys es)
+
+entries-ascend : (a : ℕ) (es : List Line) → Ascending (map (λ (e : Line). e .entered .key) es) → Ascending (map keyIn (entriesOf a es))
+entries-ascend a es up = by (adds a (saidIn es)) refl
+  where
+    own : Ascending (map keyIn (map enteredIn es))
+    own = subst Ascending (sym (same-keys es)) up
+
+    by : (b : Bool) → adds a (saidIn es) ≡ b → Ascending (map keyIn (entriesWith b a es))
+    by true e = inserted-ascends a (map enteredIn es) (all-map Other enteredIn (λ l h. h) es (none-said es (was-absent a (saidIn es) e))) own
+    by false e = own
+
+-- for any record sheet, version, byte order, alignment and output
+pub keys-ascend : (k : Dialect) (a : ℕ) (s out : List ℕ) {end start : ℕ} → Written end start ≡ answerFor k a s out → Ascending (map (λ (e : Entered). e .key) (contentsFor a s .entries))
+keys-ascend k a s out wrote =
+    let w = wrote-plan k a s out wrote in
+    let p = planned-by k a (length out) s (w .fine) in
+    subst (λ r. Ascending (map keyIn (sheetFor a (recordsIn r) .entries))) (p .is) (entries-ascend a (p .records .entries) (sheet-ascending s (p .is)))

@@ -1,0 +1,43 @@
+-- The known numbers, all of one table: the checker computes each from the definitions. Assumes nothing.
+use mathlib.Core.Path.{refl}
+use Rattle.fields.specs.Bytes.{little, bytesOf, rows}
+use Rattle.fields.specs.Each.{each}
+use Rattle.fields.specs.Reading.{run, _>>=_, here, andThen}
+use Rattle.fields.specs.Value.{number}
+use Rattle.kinds.specs.Table.{blockOf}
+use Rattle.layout.specs.Layout.{placeOf, layoutFrom}
+use Rattle.records.specs.Format.{scalarWidth, lengthAt, lengthsOf}
+use Rattle.records.specs.Contents.{sizeBytes, textBytes, typeBytes, saidBytes, entryBytes, lengthBytes, shapeBytes, storedBytes, tensorBytes}
+use Rattle.header.specs.Contents.{startBytes, headerBytes}
+use Rattle.header.proofs.Examples.{no-records, no-records-1, two-tensors, two-tensors-1}
+use Rattle.sheet.specs.Format.{bytes, textOf, text, opening, framed, shape, drawn, tensor}
+use Rattle.sheet.specs.Sheet.{asMany, entriesFrom, tensorsFrom, sheetOf}
+use Rattle.plan.specs.Plan.{planFor}
+use Rattle.writer.specs.Output.{headerFor}
+use Rattle.promises.specs.Known.{Known}
+
+pub known : Known
+unfolding run each number here _>>=_ andThen lengthsOf lengthAt blockOf placeOf layoutFrom
+    sheetOf entriesFrom tensorsFrom asMany text textOf bytes opening framed shape drawn tensor planFor headerFor
+    headerBytes startBytes sizeBytes textBytes typeBytes saidBytes entryBytes lengthBytes shapeBytes storedBytes tensorBytes bytesOf little rows scalarWidth
+known = record {
+  empty-3 = no-records;
+  empty-1 = no-records-1;
+  two-3 = two-tensors;
+  two-1 = two-tensors-1;
+  two-laid = refl;
+  file-134 = refl;
+  file-133 = refl;
+  kind-2 = refl;
+  no-dimensions = refl;
+  too-long = refl;
+  just-fits = refl;
+  no-sheet = λ out. refl;
+  only-version = refl;
+  then-zeros = refl;
+  alignment-64 = refl;
+  written-3 = refl;
+  written-1 = refl;
+  output-3 = refl;
+  output-1 = refl;
+}

@@ -1,0 +1,9 @@
+pub mod Said
+pub mod Fits
+pub mod Back
+pub mod Sizes
+pub mod Answer
+pub mod Offsets
+pub mod Keys
+pub mod Once
+pub mod Known

@@ -1,0 +1,111 @@
+-- The header of a sheet that can be written says the caller's alignment: by the entry that is added, by the sheet's own, or by none where it is 32. Assumes nothing.
+use Prim.Native.Nat.{ℕ, _%_, _^_, _≤_, _<_}
+use mathlib.Core.Path.{_≡_, refl, sym, ap, subst, _∙_}
+use mathlib.Core.Bool.{Bool, true, false, not}
+use mathlib.Core.List.{List, [], _∷_, map}
+use native.Mathlib.Omega.{arith}
+use native.Mathlib.Nat.{mod-eq-of-lt}
+use borrow.Author.Tests.{leb-true, eqb-true}
+use lib.Dec.{leb, eqb}
+use Rattle.fields.specs.Back.{All}
+use Rattle.fields.specs.Choice.{if_then_else_}
+use Rattle.fields.specs.Each.{fold}
+use Rattle.fields.specs.Order.{before}
+use Rattle.records.specs.Format.{isWord, alignmentKey}
+use Rattle.records.specs.Contents.{one}
+use Rattle.header.specs.Format.{usable}
+use Rattle.header.specs.Contents.{alignmentSaid, latestSaid, alignmentIn}
+use Rattle.sheet.specs.Format.{Line}
+use Rattle.plan.specs.declared.SaidAlignment.{SaidAlignment}
+use Rattle.plan.specs.declared.SaidAlignment.the-variants.{By, Absent}
+use Rattle.plan.specs.Header.{saidWith, saidIn, adds, alignmentEntry, inserted, enteredIn, entriesWith, entriesOf}
+use Rattle.plan.specs.Plan.{isAlignment, canAdd, agrees}
+
+-- the alignment that is said, or x where none is
+abbrev orElse : ℕ → SaidAlignment → ℕ
+orElse x (By y) = y
+orElse x Absent = x
+
+one-said : (x : ℕ) (z : SaidAlignment) (b : Bool) (y : ℕ) → (if b then y else orElse x z) ≡ orElse x (if b then By y else z)
+one-said x z true y = refl
+one-said x z false y = refl
+
+-- a reader that starts from x finds what the sheet's entries say, or x
+all-said : (x : ℕ) (z : SaidAlignment) (es : List Line) → fold latestSaid (orElse x z) (map enteredIn es) ≡ orElse x (fold saidWith z es)
+all-said x z [] = refl
+all-said x z (e ∷ es) =
+    let step : latestSaid (orElse x z) (enteredIn e) ≡ orElse x (saidWith z e) = one-said x z (isWord alignmentKey (e .entered .key)) (alignmentSaid (e .entered .said)) in
+    ap (λ y. fold latestSaid y (map enteredIn es)) step ∙ all-said x (saidWith z e) es
+
+-- what was said is not taken back
+stays-said : (y : ℕ) (es : List Line) → fold saidWith (By y) es ≡ Absent → ⊥
+stays-said y [] h = let z : _≡_ {A = ℕ} 0 1 = cc in omega arith
+stays-said y (e ∷ es) h = by (isWord alignmentKey (e .entered .key)) (stays-said y es) (stays-said (alignmentSaid (e .entered .said)) es) h
+  where
+    by : (b : Bool) → (fold saidWith (By y) es ≡ Absent → ⊥) → (fold saidWith (By (alignmentSaid (e .entered .said))) es ≡ Absent → ⊥)
+        → fold saidWith (if b then By (alignmentSaid (e .entered .said)) else By y) es ≡ Absent → ⊥
+    by true f g h = g h
+    by false f g h = f h
+
+-- so where nothing is said, neither the first nor the others say it
+absent-by : (e : Line) (es : List Line) → fold saidWith Absent (e ∷ es) ≡ Absent → (isWord alignmentKey (e .entered .key) ≡ false) × (fold saidWith Absent es ≡ Absent)
+absent-by e es h = by (isWord alignmentKey (e .entered .key)) refl h
+  where
+    by : (b : Bool) → isWord alignmentKey (e .entered .key) ≡ b → fold saidWith (if b then By (alignmentSaid (e .entered .said)) else Absent) es ≡ Absent
+        → (isWord alignmentKey (e .entered .key) ≡ false) × (fold saidWith Absent es ≡ Absent)
+    by true i g = absurd (stays-said (alignmentSaid (e .entered .said)) es g)
+    by false i g = (i, g)
+
+pub none-said : (es : List Line) → saidIn es ≡ Absent → All (λ (e : Line). isWord alignmentKey (e .entered .key) ≡ false) es
+none-said [] h = tt
+none-said (e ∷ es) h = let b = absent-by e es h in (b .0, none-said es (b .1))
+
+-- an entry that is added where nothing is said is what a reader finds, wherever it stands
+added-said : (a x : ℕ) (es : List Line) → fold saidWith Absent es ≡ Absent → fold latestSaid x (inserted a (map enteredIn es)) ≡ alignmentSaid (one 4 a)
+added-said a x [] h = refl
+added-said a x (e ∷ es) h = by (before alignmentKey (e .entered .key)) (added-said a (latestSaid x (enteredIn e)) es (absent-by e es h .1))
+  where
+    by : (b : Bool) → fold latestSaid (latestSaid x (enteredIn e)) (inserted a (map enteredIn es)) ≡ alignmentSaid (one 4 a)
+        → fold latestSaid x (if b then alignmentEntry a ∷ enteredIn e ∷ map enteredIn es else enteredIn e ∷ inserted a (map enteredIn es)) ≡ alignmentSaid (one 4 a)
+    by true f = all-said (alignmentSaid (one 4 a)) Absent (e ∷ es) ∙ ap (orElse (alignmentSaid (one 4 a))) h
+    by false f = f
+
+-- an alignment is usable as it is
+usable-as-is : (a : ℕ) → isAlignment a ≡ true → usable a ≡ a
+usable-as-is a = by (eqb a 0) (eqb (a % 8) 0)
+  where
+    by : (b c : Bool) → (if b then false else c) ≡ true → (if b then 32 else if c then a else 32) ≡ a
+    by true c h = let z : _≡_ {A = ℕ} 0 1 = cc in absurd (omega arith)
+    by false true h = refl
+    by false false h = let z : _≡_ {A = ℕ} 0 1 = cc in absurd (omega arith)
+
+-- and so is its u32, where it is one
+small-said : (a : ℕ) → isAlignment a ≡ true → a ≤ 4294967295 → alignmentSaid (one 4 a) ≡ a
+small-said a aligned small =
+    let less : a < 2 ^ 32 = omega arith in
+    let same : a % 2 ^ 32 ≡ a = mod-eq-of-lt less in
+    rw same (usable-as-is a aligned)
+
+-- an alignment that is added is a u32
+pub added-small : (a : ℕ) (said : SaidAlignment) → canAdd a said ≡ true → adds a said ≡ true → a ≤ 4294967295
+added-small a said can adding = leb-true a 4294967295 (subst (λ b. (if b then leb a 4294967295 else true) ≡ true) adding can)
+
+not-added : (a : ℕ) (said : SaidAlignment) → agrees a said ≡ true → adds a said ≡ false → orElse 32 said ≡ a
+not-added a (By y) agreed e = eqb-true y a agreed
+not-added a Absent agreed e = by (eqb a 32) refl e
+  where
+    by : (b : Bool) → eqb a 32 ≡ b → not b ≡ false → 32 ≡ a
+    by true h i = sym (eqb-true a 32 h)
+    by false h i = let z : _≡_ {A = ℕ} 0 1 = cc in absurd (omega arith)
+
+pub was-absent : (a : ℕ) (said : SaidAlignment) → adds a said ≡ true → said ≡ Absent
+was-absent a (By y) e = let z : _≡_ {A = ℕ} 0 1 = cc in absurd (omega arith)
+was-absent a Absent e = refl
+
+-- whoever says it, a reader finds the caller's alignment
+pub alignment-said : (a : ℕ) (es : List Line) → isAlignment a ≡ true → canAdd a (saidIn es) ≡ true → agrees a (saidIn es) ≡ true → alignmentIn (entriesOf a es) ≡ a
+alignment-said a es aligned can agreed = by (adds a (saidIn es)) refl
+  where
+    by : (b : Bool) → adds a (saidIn es) ≡ b → alignmentIn (entriesWith b a es) ≡ a
+    by true e = added-said a 32 es (was-absent a (saidIn es) e) ∙ small-said a aligned (added-small a (saidIn es) can e)
+    by false e = all-said 32 Absent es ∙ not-added a (saidIn es) agreed e

@@ -1,0 +1,52 @@
+-- What the promises over the writer and the reader speak of: what the writer leaves, what the reader tells of bytes, and what it is to tell of those.
+use Prim.Native.Nat.{ℕ, _≤_}
+use mathlib.Core.List.{List, map}
+use lib.ListN.{length}
+use Rattle.fields.specs.Reading.{Answer, accepted, refused, seen}
+use Rattle.layout.specs.Layout.{Piece}
+use Rattle.records.specs.declared.Dialect.{Dialect}
+use Rattle.records.specs.Contents.{Weight}
+use Rattle.header.specs.Answers.{full, wholeOf}
+use Rattle.header.specs.Contents.{Sheet, Told, toldIn}
+use Rattle.sheet.specs.Sheet.{sheetOf}
+use Rattle.plan.specs.Header.{pieceOf, sheetFor, recordsIn}
+use Rattle.plan.specs.Plan.{planFor}
+use Rattle.writer.specs.declared.HeaderWritten.{HeaderWritten}
+use Rattle.writer.specs.Output.{writtenOf, headerFor, leftBy}
+
+-- what the writer answers, for a version and byte order, an alignment, a record sheet and an output
+abbrev pub answerFor : Dialect → ℕ → List ℕ → List ℕ → HeaderWritten
+answerFor k a s out = writtenOf (planFor k a (length out) s)
+
+-- and the output after the call
+abbrev pub outputFor : Dialect → ℕ → List ℕ → List ℕ → List ℕ
+outputFor k a s out = leftBy (planFor k a (length out) s) (headerFor k a s) out
+
+-- what the full reader tells of bytes, with this cap and these tables
+abbrev pub readIn : ℕ → List (List ℕ) → List (List ℕ) → List ℕ → Answer Told
+readIn cap es ts bytes = seen (toldIn bytes) (wholeOf full cap es ts bytes)
+
+-- all that the header holds: the sheet's entries, with the alignment's own where that is added, and its tensors at their offsets
+abbrev pub contentsFor : ℕ → List ℕ → Sheet
+contentsFor a s = sheetFor a (recordsIn (sheetOf s))
+
+-- its tensors as they are laid, and the offsets that they have in it
+abbrev pub piecesIn : List ℕ → List Piece
+piecesIn s = map pieceOf (recordsIn (sheetOf s) .tensors)
+
+abbrev pub offsetsIn : ℕ → List ℕ → List ℕ
+offsetsIn a s = map (λ (t : Weight). t .offset) (contentsFor a s .tensors)
+
+-- what is to be told of it, where it ends and its data starts
+abbrev pub toldFor : Dialect → ℕ → List ℕ → ℕ → ℕ → Told
+toldFor k a s end start = record { dialect = k; sheet = contentsFor a s; alignment = a; end = end; start = start }
+
+-- tables with a row for each of its records
+pub record Enough (a : ℕ) (s : List ℕ) (es ts : List (List ℕ)) : Type 0 where
+  pub entries : length (contentsFor a s .entries) ≤ length es
+  pub tensors : length (contentsFor a s .tensors) ≤ length ts
+
+-- an answer but for what a version decides: the version itself, where the header ends, and where its data starts
+abbrev pub versionless : Answer Told → Answer Told
+versionless (accepted t q) = accepted (record { dialect = record { version = 0; big = t .dialect .big }; sheet = t .sheet; alignment = t .alignment; end = 0; start = 0 }) 0
+versionless (refused n p) = refused n p

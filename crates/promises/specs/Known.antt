@@ -1,0 +1,108 @@
+-- The known numbers, as one table: files and sheets byte by byte, and what the definitions say of them.
+use Prim.Native.Nat.{ℕ, _-_, _^_}
+use mathlib.Core.Path.{_≡_}
+use mathlib.Core.List.{List, [], _∷_, _++_, map}
+use mathlib.Core.Bool.{false}
+use lib.ListN.{replicate}
+use Rattle.fields.specs.Reading.{accepted}
+use Rattle.kinds.specs.declared.Measure.the-variants.{Bytes, Refused as Unmeasured}
+use Rattle.kinds.specs.Shape.{measureOf}
+use Rattle.layout.specs.Layout.{Piece, laidOut, layoutOf}
+use Rattle.records.specs.declared.Dialect.{Dialect}
+use Rattle.records.specs.declared.Tensor.{Tensor}
+use Rattle.records.specs.Rows.{tensorRow}
+use Rattle.header.specs.declared.Header.{Header}
+use Rattle.header.specs.Answers.{full, wholeOf}
+use Rattle.ranges.specs.declared.RangeCheck.the-variants.{Inside, Refused as Outside}
+use Rattle.ranges.specs.Ranges.{checkFrom}
+use Rattle.writer.specs.declared.HeaderWritten.the-variants.{Written, Refused as NotWritten}
+use Rattle.promises.specs.Back.{answerFor, outputFor}
+
+-- Files.
+
+-- version 3, no tensors, no entries
+abbrev pub empty3 : List ℕ
+empty3 = 0x47 ∷ 0x47 ∷ 0x55 ∷ 0x46 ∷ 3 ∷ 0 ∷ 0 ∷ 0 ∷ replicate 16 0
+
+-- version 1
+abbrev pub empty1 : List ℕ
+empty1 = 0x47 ∷ 0x47 ∷ 0x55 ∷ 0x46 ∷ 1 ∷ 0 ∷ 0 ∷ 0 ∷ replicate 8 0
+
+-- version 3: a, of kind 0, with 5 numbers, at offset 0; and b, of kind 1, with 3 numbers, at offset 32
+abbrev pub tensors3 : List ℕ
+tensors3 =
+    0x47 ∷ 0x47 ∷ 0x55 ∷ 0x46 ∷ 3 ∷ 0 ∷ 0 ∷ 0 ∷ 2 ∷ 0 ∷ 0 ∷ 0 ∷ 0 ∷ 0 ∷ 0 ∷ 0 ∷ 0 ∷ 0 ∷ 0 ∷ 0 ∷ 0 ∷ 0 ∷ 0 ∷ 0 ∷
+    1 ∷ 0 ∷ 0 ∷ 0 ∷ 0 ∷ 0 ∷ 0 ∷ 0 ∷ 97 ∷ 1 ∷ 0 ∷ 0 ∷ 0 ∷ 5 ∷ 0 ∷ 0 ∷ 0 ∷ 0 ∷ 0 ∷ 0 ∷ 0 ∷ 0 ∷ 0 ∷ 0 ∷ 0 ∷ 0 ∷ 0 ∷ 0 ∷ 0 ∷ 0 ∷ 0 ∷ 0 ∷ 0 ∷
+    1 ∷ 0 ∷ 0 ∷ 0 ∷ 0 ∷ 0 ∷ 0 ∷ 0 ∷ 98 ∷ 1 ∷ 0 ∷ 0 ∷ 0 ∷ 3 ∷ 0 ∷ 0 ∷ 0 ∷ 0 ∷ 0 ∷ 0 ∷ 0 ∷ 1 ∷ 0 ∷ 0 ∷ 0 ∷ 32 ∷ 0 ∷ 0 ∷ 0 ∷ 0 ∷ 0 ∷ 0 ∷ 0 ∷ []
+
+-- the same two in version 1
+abbrev pub tensors1 : List ℕ
+tensors1 =
+    0x47 ∷ 0x47 ∷ 0x55 ∷ 0x46 ∷ 1 ∷ 0 ∷ 0 ∷ 0 ∷ 2 ∷ 0 ∷ 0 ∷ 0 ∷ 0 ∷ 0 ∷ 0 ∷ 0 ∷
+    1 ∷ 0 ∷ 0 ∷ 0 ∷ 97 ∷ 1 ∷ 0 ∷ 0 ∷ 0 ∷ 5 ∷ 0 ∷ 0 ∷ 0 ∷ 0 ∷ 0 ∷ 0 ∷ 0 ∷ 0 ∷ 0 ∷ 0 ∷ 0 ∷ 0 ∷ 0 ∷ 0 ∷ 0 ∷ 0 ∷ 0 ∷ 0 ∷ 0 ∷
+    1 ∷ 0 ∷ 0 ∷ 0 ∷ 98 ∷ 1 ∷ 0 ∷ 0 ∷ 0 ∷ 3 ∷ 0 ∷ 0 ∷ 0 ∷ 0 ∷ 0 ∷ 0 ∷ 0 ∷ 1 ∷ 0 ∷ 0 ∷ 0 ∷ 32 ∷ 0 ∷ 0 ∷ 0 ∷ 0 ∷ 0 ∷ 0 ∷ 0 ∷ []
+
+-- The record sheet of those two: lengths, tags, names, kinds and shapes.
+abbrev pub sheetAB : List ℕ
+sheetAB =
+    1 ∷
+    0 ∷ 0 ∷ 0 ∷ 19 ∷ 2 ∷ 0 ∷ 0 ∷ 0 ∷ 1 ∷ 97 ∷ 0 ∷ 0 ∷ 0 ∷ 0 ∷ 1 ∷ 0 ∷ 0 ∷ 0 ∷ 0 ∷ 0 ∷ 0 ∷ 0 ∷ 5 ∷
+    0 ∷ 0 ∷ 0 ∷ 19 ∷ 2 ∷ 0 ∷ 0 ∷ 0 ∷ 1 ∷ 98 ∷ 0 ∷ 0 ∷ 0 ∷ 1 ∷ 1 ∷ 0 ∷ 0 ∷ 0 ∷ 0 ∷ 0 ∷ 0 ∷ 0 ∷ 3 ∷ []
+
+-- What is told of them.
+
+-- the little end first, in the version v
+abbrev pub little : ℕ → Dialect
+little v = record { version = v; big = false }
+
+-- the header of a file of the version v with no entries and n tensors, that ends at e, with its data at d
+abbrev pub plain : ℕ → ℕ → ℕ → ℕ → Header
+plain v n e d = record { version = v; big = false; entries = 0; tensors = n; alignment = 32; end = e; start = d }
+
+-- a tensor of one length: its name's place, kind, length, offset and size
+abbrev pub flat : ℕ → ℕ → ℕ → ℕ → ℕ → Tensor
+flat p k n o b = record {
+  name = record { place = p; len = 1 };
+  shape = record { dimensions = 1; first = n; second = 1; third = 1; fourth = 1 };
+  kind = k;
+  offset = o;
+  parameters = n;
+  size = b;
+}
+
+-- a and b where the file of version 3 has them
+abbrev pub rowsAB : List (List ℕ)
+rowsAB = map tensorRow (flat 32 0 5 0 20 ∷ flat 65 1 3 32 6 ∷ [])
+
+-- a tensor of one length that is to be laid
+abbrev pub piece : ℕ → ℕ → Piece
+piece n k = record { lengths = n ∷ 1 ∷ 1 ∷ 1 ∷ []; kind = k }
+
+-- The table. What the writer is given has bytes 255, so that zeros are its own.
+pub record Known : Type 0 where
+  -- the empty file: 24 bytes and 16, and the data at 32
+  pub empty-3 : wholeOf full 0 [] [] empty3 ≡ accepted (record { head = plain 3 0 24 32; entries = []; tensors = [] }) 24
+  pub empty-1 : wholeOf full 0 [] [] empty1 ≡ accepted (record { head = plain 1 0 16 32; entries = []; tensors = [] }) 16
+  -- a and b: sizes 20 and 6, offsets 0 and 32; the header ends at 90 and at 74, and the data is at 96
+  pub two-3 : wholeOf full 0 [] ([] ∷ [] ∷ []) tensors3 ≡ accepted (record { head = plain 3 2 90 96; entries = []; tensors = flat 32 0 5 0 20 ∷ flat 65 1 3 32 6 ∷ [] }) 90
+  pub two-1 : wholeOf full 0 [] ([] ∷ [] ∷ []) tensors1 ≡ accepted (record { head = plain 1 2 74 96; entries = []; tensors = flat 20 0 5 0 20 ∷ flat 49 1 3 32 6 ∷ [] }) 74
+  pub two-laid : layoutOf 32 (piece 5 0 ∷ piece 3 1 ∷ []) ≡ laidOut (0 ∷ 32 ∷ []) (record { total = 8; next = 64 })
+  -- a file of 134 bytes holds them, and one of 133 does not hold tensor 1
+  pub file-134 : checkFrom 96 134 0 rowsAB ≡ Inside
+  pub file-133 : checkFrom 96 133 0 rowsAB ≡ Outside 20 1
+  -- sizes: kind 2 with 33 numbers; kind 0 with no dimensions, with 2 ^ 62 numbers and with one fewer
+  pub kind-2 : measureOf (33 ∷ 1 ∷ 1 ∷ 1 ∷ []) 2 ≡ Bytes 33 18
+  pub no-dimensions : measureOf (1 ∷ 1 ∷ 1 ∷ 1 ∷ []) 0 ≡ Bytes 1 4
+  pub too-long : measureOf (2 ^ 62 ∷ 1 ∷ 1 ∷ 1 ∷ []) 0 ≡ Unmeasured 14
+  pub just-fits : measureOf ((2 ^ 62 - 1) ∷ 1 ∷ 1 ∷ 1 ∷ []) 0 ≡ Bytes (2 ^ 62 - 1) (2 ^ 64 - 4)
+  -- a sheet of no bytes is refused, whatever the output
+  pub no-sheet : (out : List ℕ) → answerFor (little 3) 32 [] out ≡ NotWritten 31 0
+  -- the sheet of the byte 1: 24 bytes, then 8 zeros; and, with alignment 64, 57 bytes, then 7 zeros
+  pub only-version : answerFor (little 3) 32 (1 ∷ []) (replicate 32 255) ≡ Written 24 32
+  pub then-zeros : outputFor (little 3) 32 (1 ∷ []) (replicate 33 255) ≡ empty3 ++ replicate 8 0 ++ (255 ∷ [])
+  pub alignment-64 : answerFor (little 3) 64 (1 ∷ []) (replicate 64 255) ≡ Written 57 64
+  -- the sheet of a and b becomes the files above
+  pub written-3 : answerFor (little 3) 32 sheetAB (replicate 96 255) ≡ Written 90 96
+  pub written-1 : answerFor (little 1) 32 sheetAB (replicate 96 255) ≡ Written 74 96
+  pub output-3 : outputFor (little 3) 32 sheetAB (replicate 96 255) ≡ tensors3 ++ replicate 6 0
+  pub output-1 : outputFor (little 1) 32 sheetAB (replicate 96 255) ≡ tensors1 ++ replicate 22 0
