@@ -9,12 +9,13 @@ returns : tie.Need-returns
 returns c =
     let w = c .before in
     let r = w .before .before .before in
-    (c .number-of .ensures ∙ ap numberOf (r .read .ensures .0), (w .words-of .ensures ∙ ap wordsOf (r .read .ensures .0), (r .read .ensures .1 .0, r .read .ensures .1 .1)))
+    rw (← r .before .before .before .ceilings .ensures) (c .number-of .ensures ∙ ap numberOf (r .read .ensures .0), (w .words-of .ensures ∙ ap wordsOf (r .read .ensures .0), (r .read .ensures .1 .0, r .read .ensures .1 .1)))
 
 pub sp-read-spec : {M : Type 1} → statement M
 sp-read-spec =
     tie.close
     (tie.spec
+    (λ c κs. search needs)
     (λ c κs. search needs)
     (λ c κs. search needs)
     (λ c κs. search needs)

@@ -1,0 +1,348 @@
+//! Values of entries, and items of arrays, as parts of the prefix.
+
+use crate::header::ByteOrder;
+use std::fmt;
+use std::iter::FusedIterator;
+
+/// The type of a value or of an array's items. Its number is the file's.
+#[allow(missing_docs)]
+#[derive(Clone, Copy, Debug, PartialEq, Eq, Hash)]
+#[repr(u8)]
+pub enum Type {
+    U8 = 0,
+    I8 = 1,
+    U16 = 2,
+    I16 = 3,
+    U32 = 4,
+    I32 = 5,
+    F32 = 6,
+    Bool = 7,
+    String = 8,
+    Array = 9,
+    U64 = 10,
+    I64 = 11,
+    F64 = 12,
+}
+
+impl Type {
+    /// The type of a number of the file. Above 12 there is none, and no reader accepts one.
+    pub(crate) fn of(number: u64) -> Type {
+        match number {
+            0 => Type::U8,
+            1 => Type::I8,
+            2 => Type::U16,
+            3 => Type::I16,
+            4 => Type::U32,
+            5 => Type::I32,
+            6 => Type::F32,
+            7 => Type::Bool,
+            8 => Type::String,
+            9 => Type::Array,
+            10 => Type::U64,
+            11 => Type::I64,
+            12 => Type::F64,
+            _ => unreachable!("a type above 12 is refused"),
+        }
+    }
+
+    /// The type's name, as Rust has it.
+    pub fn name(self) -> &'static str {
+        match self {
+            Type::U8 => "u8",
+            Type::I8 => "i8",
+            Type::U16 => "u16",
+            Type::I16 => "i16",
+            Type::U32 => "u32",
+            Type::I32 => "i32",
+            Type::F32 => "f32",
+            Type::Bool => "bool",
+            Type::String => "string",
+            Type::Array => "array",
+            Type::U64 => "u64",
+            Type::I64 => "i64",
+            Type::F64 => "f64",
+        }
+    }
+
+    /// The bytes of a scalar of this type in a file; `None` for strings and arrays.
+    fn width(self) -> Option<usize> {
+        match self {
+            Type::U8 | Type::I8 | Type::Bool => Some(1),
+            Type::U16 | Type::I16 => Some(2),
+            Type::U32 | Type::I32 | Type::F32 => Some(4),
+            Type::U64 | Type::I64 | Type::F64 => Some(8),
+            Type::String | Type::Array => None,
+        }
+    }
+}
+
+impl fmt::Display for Type {
+    fn fmt(&self, f: &mut fmt::Formatter<'_>) -> fmt::Result {
+        f.write_str(self.name())
+    }
+}
+
+/// A value. Strings are parts of the prefix, as the file has them; nothing says that they are UTF-8.
+#[allow(missing_docs)]
+#[derive(Clone, Copy, Debug, PartialEq)]
+pub enum Value<'a> {
+    U8(u8),
+    I8(i8),
+    U16(u16),
+    I16(i16),
+    U32(u32),
+    I32(i32),
+    F32(f32),
+    Bool(bool),
+    String(&'a [u8]),
+    Array(Array<'a>),
+    U64(u64),
+    I64(i64),
+    F64(f64),
+}
+
+impl<'a> Value<'a> {
+    /// The value of an entry's row: the words from its type on.
+    pub(crate) fn of_words(prefix: &'a [u8], dialect: Dialect, words: &[u64]) -> Value<'a> {
+        match Type::of(words[0]) {
+            Type::String => Value::String(&prefix[words[1] as usize..][..words[2] as usize]),
+            Type::Array => Value::Array(Array {
+                item_type: Type::of(words[1]),
+                len: words[2],
+                kept: words[3],
+                items: &prefix[words[4] as usize..],
+                dialect,
+            }),
+            // A row has a bool as 0 or 1.
+            scalar => Value::scalar(scalar, words[1]),
+        }
+    }
+
+    /// A scalar by its bits, of which those above its width don't count: a row has signed ones in 64 bits.
+    fn scalar(scalar: Type, bits: u64) -> Value<'a> {
+        match scalar {
+            Type::U8 => Value::U8(bits as u8),
+            Type::I8 => Value::I8(bits as i8),
+            Type::U16 => Value::U16(bits as u16),
+            Type::I16 => Value::I16(bits as i16),
+            Type::U32 => Value::U32(bits as u32),
+            Type::I32 => Value::I32(bits as i32),
+            Type::F32 => Value::F32(f32::from_bits(bits as u32)),
+            Type::Bool => Value::Bool(bits != 0),
+            Type::U64 => Value::U64(bits),
+            Type::I64 => Value::I64(bits as i64),
+            Type::F64 => Value::F64(f64::from_bits(bits)),
+            Type::String | Type::Array => unreachable!("no scalar"),
+        }
+    }
+
+    /// The value's type.
+    pub fn value_type(&self) -> Type {
+        match self {
+            Value::U8(_) => Type::U8,
+            Value::I8(_) => Type::I8,
+            Value::U16(_) => Type::U16,
+            Value::I16(_) => Type::I16,
+            Value::U32(_) => Type::U32,
+            Value::I32(_) => Type::I32,
+            Value::F32(_) => Type::F32,
+            Value::Bool(_) => Type::Bool,
+            Value::String(_) => Type::String,
+            Value::Array(_) => Type::Array,
+            Value::U64(_) => Type::U64,
+            Value::I64(_) => Type::I64,
+            Value::F64(_) => Type::F64,
+        }
+    }
+
+    /// An integer of any type that is not below 0.
+    pub fn as_u64(&self) -> Option<u64> {
+        match *self {
+            Value::U8(n) => Some(n.into()),
+            Value::U16(n) => Some(n.into()),
+            Value::U32(n) => Some(n.into()),
+            Value::U64(n) => Some(n),
+            _ => self.as_i64().and_then(|n| n.try_into().ok()),
+        }
+    }
+
+    /// An integer of any type that is not above 2^63 - 1.
+    pub fn as_i64(&self) -> Option<i64> {
+        match *self {
+            Value::U8(n) => Some(n.into()),
+            Value::I8(n) => Some(n.into()),
+            Value::U16(n) => Some(n.into()),
+            Value::I16(n) => Some(n.into()),
+            Value::U32(n) => Some(n.into()),
+            Value::I32(n) => Some(n.into()),
+            Value::U64(n) => n.try_into().ok(),
+            Value::I64(n) => Some(n),
+            _ => None,
+        }
+    }
+
+    /// A float of either type.
+    pub fn as_f64(&self) -> Option<f64> {
+        match *self {
+            Value::F32(x) => Some(x.into()),
+            Value::F64(x) => Some(x),
+            _ => None,
+        }
+    }
+
+    /// A bool.
+    pub fn as_bool(&self) -> Option<bool> {
+        match *self {
+            Value::Bool(b) => Some(b),
+            _ => None,
+        }
+    }
+
+    /// A string's bytes.
+    pub fn as_bytes(&self) -> Option<&'a [u8]> {
+        match *self {
+            Value::String(bytes) => Some(bytes),
+            _ => None,
+        }
+    }
+
+    /// A string, where it is UTF-8.
+    pub fn as_str(&self) -> Option<&'a str> {
+        self.as_bytes().and_then(|bytes| std::str::from_utf8(bytes).ok())
+    }
+
+    /// An array.
+    pub fn as_array(&self) -> Option<Array<'a>> {
+        match *self {
+            Value::Array(array) => Some(array),
+            _ => None,
+        }
+    }
+}
+
+/// What the items of an array depend on.
+#[derive(Clone, Copy, Debug, PartialEq, Eq)]
+pub(crate) struct Dialect {
+    pub byte_order: ByteOrder,
+    /// The bytes of a string's size.
+    pub size_width: usize,
+}
+
+/// An array: its items follow one another in the prefix. All of them were checked, the ones that are not kept too.
+#[derive(Clone, Copy)]
+pub struct Array<'a> {
+    item_type: Type,
+    len: u64,
+    kept: u64,
+    /// The prefix from the first item on.
+    items: &'a [u8],
+    dialect: Dialect,
+}
+
+impl<'a> Array<'a> {
+    /// The type of every item. It may be [`Type::Array`] where there are no items.
+    pub fn item_type(&self) -> Type {
+        self.item_type
+    }
+
+    /// How many items the file has.
+    pub fn len(&self) -> u64 {
+        self.len
+    }
+
+    /// Whether the file has no item.
+    pub fn is_empty(&self) -> bool {
+        self.len == 0
+    }
+
+    /// How many items are kept: all, but for a tokenizer's arrays, which the reader's cap cuts ([`Options::cap`](crate::Options::cap)).
+    pub fn kept(&self) -> u64 {
+        self.kept
+    }
+
+    /// The items that are kept.
+    pub fn iter(&self) -> Items<'a> {
+        self.first(self.kept)
+    }
+
+    /// All items of the file, whatever the cap.
+    pub fn iter_all(&self) -> Items<'a> {
+        self.first(self.len)
+    }
+
+    fn first(&self, left: u64) -> Items<'a> {
+        Items { item_type: self.item_type, left, rest: self.items, dialect: self.dialect }
+    }
+}
+
+/// Arrays are equal where their items' types, their items and their kept counts are.
+impl PartialEq for Array<'_> {
+    fn eq(&self, other: &Array<'_>) -> bool {
+        self.item_type == other.item_type && self.kept == other.kept && self.iter_all().eq(other.iter_all())
+    }
+}
+
+impl fmt::Debug for Array<'_> {
+    fn fmt(&self, f: &mut fmt::Formatter<'_>) -> fmt::Result {
+        write!(f, "[{}; {} kept of {}]", self.item_type, self.kept, self.len)
+    }
+}
+
+impl<'a> IntoIterator for Array<'a> {
+    type Item = Value<'a>;
+    type IntoIter = Items<'a>;
+
+    fn into_iter(self) -> Items<'a> {
+        self.iter()
+    }
+}
+
+/// An iterator over the items of an array, as scalars and strings.
+#[derive(Clone)]
+pub struct Items<'a> {
+    item_type: Type,
+    left: u64,
+    rest: &'a [u8],
+    dialect: Dialect,
+}
+
+impl<'a> Items<'a> {
+    /// The next bytes. The reader saw every item of an array inside the prefix.
+    fn take(&mut self, n: usize) -> &'a [u8] {
+        let (taken, rest) = self.rest.split_at(n);
+        self.rest = rest;
+        taken
+    }
+
+    fn number(&mut self, width: usize) -> u64 {
+        let bytes = self.take(width).iter();
+        let join = |n: u64, b: &u8| n << 8 | u64::from(*b);
+        match self.dialect.byte_order {
+            ByteOrder::Little => bytes.rev().fold(0, join),
+            ByteOrder::Big => bytes.fold(0, join),
+        }
+    }
+}
+
+impl<'a> Iterator for Items<'a> {
+    type Item = Value<'a>;
+
+    fn next(&mut self) -> Option<Value<'a>> {
+        self.left = self.left.checked_sub(1)?;
+        Some(match self.item_type.width() {
+            Some(width) => Value::scalar(self.item_type, self.number(width)),
+            None => {
+                let len = self.number(self.dialect.size_width);
+                Value::String(self.take(len as usize))
+            }
+        })
+    }
+
+    fn size_hint(&self) -> (usize, Option<usize>) {
+        // Every item has a byte in the prefix, so that their number is a usize.
+        (self.left as usize, Some(self.left as usize))
+    }
+}
+
+impl ExactSizeIterator for Items<'_> {}
+impl FusedIterator for Items<'_> {}

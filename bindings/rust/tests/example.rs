@@ -1,0 +1,127 @@
+//! The examples, run as programs: `ranges`, which `cargo test` builds, and examples/c/list.c of the repository, which is built here. And
+//! `first`, which README.md at the top of the repository has.
+
+mod made;
+
+use made::{a_and_b, made};
+use std::path::{Path, PathBuf};
+use std::process::{Command, Output};
+
+/// The repository's top.
+fn top() -> PathBuf {
+    Path::new(env!("CARGO_MANIFEST_DIR")).join("../..")
+}
+
+/// A place for a file of this run.
+fn temporary(name: &str) -> PathBuf {
+    std::env::temp_dir().join(format!("strutpebble-{}-{name}", std::process::id()))
+}
+
+/// Runs a program on a file of these bytes, under an emulator where cargo's tests run under one.
+fn run(program: &Path, name: &str, file: &[u8], words: &[&str]) -> (i32, String, String) {
+    let path = temporary(name);
+    std::fs::write(&path, file).unwrap();
+    let mut command = match std::env::var("CARGO_TARGET_X86_64_UNKNOWN_LINUX_GNU_RUNNER") {
+        Ok(runner) => Command::new(runner),
+        Err(_) => Command::new("env"),
+    };
+    let told = command.arg(program).arg(&path).args(words).output();
+    std::fs::remove_file(&path).unwrap();
+    let Output { status, stdout, stderr } = told.unwrap();
+    (status.code().unwrap(), String::from_utf8(stdout).unwrap(), String::from_utf8(stderr).unwrap())
+}
+
+/// What `ranges` says of a file.
+fn asked(name: &str, file: &[u8], words: &[&str]) -> (i32, String, String) {
+    let tests = std::env::current_exe().unwrap();
+    let program = tests.parent().unwrap().parent().unwrap().join("examples/ranges");
+    assert!(program.exists(), "{}: run `cargo build --example ranges` first", program.display());
+    run(&program, name, file, words)
+}
+
+#[test]
+fn a_tensor_by_number_and_by_name() {
+    let file = a_and_b(3, false);
+    assert_eq!(asked("number", &file, &["1"]), (0, "128 134\n".into(), "".into()));
+    assert_eq!(asked("name", &file, &["a"]), (0, "96 116\n".into(), "".into()));
+    assert_eq!(asked("equals", &file, &["=b"]), (0, "128 134\n".into(), "".into()));
+}
+
+#[test]
+fn no_such_tensor() {
+    let (status, out, message) = asked("none", &a_and_b(3, false), &["2"]);
+    assert_eq!((status, out.as_str()), (1, ""));
+    assert!(message.ends_with("the header has no such tensor\n"), "{message}");
+}
+
+#[test]
+fn more_bytes_are_wanted() {
+    let mut file = made(3, false, 1, 1);
+    file.key("k", 8).text(vec![b'x'; 70000]).tensor("t", &[8], 0, 0);
+    let (status, out, message) = asked("short", &file.bytes, &["0"]);
+    assert_eq!((status, out.as_str()), (1, ""));
+    let wanted = "refused 1 at byte 45: the header does not end inside these bytes: fetch more (give a number of bytes above 65536)\n";
+    assert!(message.ends_with(wanted), "{message}");
+    // A file that itself ends too soon.
+    let (status, _, message) = asked("cut", &file.bytes[..50], &["0"]);
+    assert_eq!(status, 1);
+    assert!(message.ends_with("fetch more (the file has no more)\n"), "{message}");
+    // The header ends at 70078, and the data starts at 70080.
+    assert_eq!(asked("long", &file.bytes, &["0", "80000"]), (0, "70080 70112\n".into(), "".into()));
+}
+
+#[test]
+fn called_wrongly() {
+    assert_eq!(asked("words", b"", &[]).0, 2);
+    assert_eq!(asked("bytes", b"", &["0", "many"]).0, 2);
+    assert_eq!(asked("nogguf", b"ABCDEFGH", &["0"]).0, 1);
+}
+
+#[test]
+fn the_first_use_is_the_readmes() {
+    let readme = std::fs::read_to_string(top().join("README.md")).unwrap();
+    let example = std::fs::read_to_string(top().join("bindings/rust/examples/first.rs")).unwrap();
+    let shown = readme.split("```rust\n").nth(1).unwrap().split("```").next().unwrap();
+    let (_, code) = example.split_once("\n\n").unwrap();
+    assert_eq!(shown, code);
+}
+
+#[test]
+fn the_c_example() {
+    let program = temporary("list");
+    let built = Command::new(std::env::var("CC").unwrap_or("cc".into()))
+        .args(["-std=c99", "-Wall", "-Wextra", "-Wpedantic", "-Werror", "-O2", "-I"])
+        .arg(top().join("include"))
+        .arg(top().join("examples/c/list.c"))
+        .args([env!("STRUTPEBBLE_ARCHIVE"), "-o"])
+        .arg(&program)
+        .status();
+    assert!(built.unwrap().success());
+
+    let mut file = made(3, false, 2, 5);
+    file.key("general.architecture", 8).text("llama");
+    file.key("i", 5).number(4, 0xffff_fff9);
+    file.key("f", 6).number(4, 0x3fc0_0000);
+    file.key("b", 7).number(1, 2);
+    file.array("tokenizer.tokens", 8, 9000);
+    for _ in 0..9000 {
+        file.text("x");
+    }
+    file.tensor("a", &[5], 0, 0).tensor("b", &[3, 1], 1, 32);
+    // Entries: 24 + 45 + 17 + 17 + 14 + 40 + 9000 * 9 = 81157. The tensors add 33 and 41: the header ends at 81231, the data starts at 81248.
+    let entries = "version 3, little end first, alignment 32, data from 81248 on\n\
+                   general.architecture string llama\ni i32 -7\nf f32 1.5\nb bool true\ntokenizer.tokens array of 9000 string\n";
+    let a = "a kind 0 [5] 20 bytes from 81248 on\n";
+    let b = "b kind 1 [3 1] 6 bytes from 81280 on\n";
+    file.bytes.resize(81286, 0);
+    let whole = run(&program, "whole", &file.bytes, &[]);
+    file.bytes.pop();
+    let short = run(&program, "one-less", &file.bytes, &[]);
+    let cut = run(&program, "no-header", &file.bytes[..20], &[]);
+    let wrong = run(&program, "two-words", b"", &["more"]);
+    std::fs::remove_file(&program).unwrap();
+    assert_eq!(whole, (0, format!("{entries}{a}{b}"), "".into()));
+    assert_eq!(short, (1, format!("{entries}{a}refused 20 at 1\n"), "".into()));
+    assert_eq!(cut, (1, "refused 1 at 16\n".into(), "".into()));
+    assert_eq!(wrong, (2, "".into(), "usage: list FILE\n".into()));
+}

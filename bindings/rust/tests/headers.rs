@@ -1,0 +1,180 @@
+//! Whole headers: what they say of themselves, their tensors, and which bytes of the file hold them.
+
+mod made;
+
+use made::{a_and_b, made};
+use strutpebble::{measure, read, ByteOrder, NoRange, Options, Refusal, Summary};
+
+/// The tensors a and b in version 3, byte by byte.
+#[rustfmt::skip]
+const A_AND_B: [u8; 90] = [
+    0x47, 0x47, 0x55, 0x46, 3, 0, 0, 0,
+    2, 0, 0, 0, 0, 0, 0, 0,   0, 0, 0, 0, 0, 0, 0, 0,
+    1, 0, 0, 0, 0, 0, 0, 0,   b'a',   1, 0, 0, 0,   5, 0, 0, 0, 0, 0, 0, 0,   0, 0, 0, 0,    0, 0, 0, 0, 0, 0, 0, 0,
+    1, 0, 0, 0, 0, 0, 0, 0,   b'b',   1, 0, 0, 0,   3, 0, 0, 0, 0, 0, 0, 0,   1, 0, 0, 0,   32, 0, 0, 0, 0, 0, 0, 0,
+];
+
+#[test]
+fn an_empty_header() {
+    let v3 = b"GGUF\x03\0\0\0\0\0\0\0\0\0\0\0\0\0\0\0\0\0\0\0";
+    let header = read(v3).unwrap();
+    assert_eq!((header.version(), header.header_end(), header.data_start(), header.alignment()), (3, 24, 32, 32));
+    assert_eq!((header.entries().len(), header.tensors().len()), (0, 0));
+    assert_eq!(header.check_ranges(0), Ok(()));
+
+    let v1 = b"GGUF\x01\0\0\0\0\0\0\0\0\0\0\0";
+    let header = read(v1).unwrap();
+    assert_eq!((header.version(), header.header_end(), header.data_start()), (1, 16, 32));
+}
+
+#[test]
+fn a_and_b_in_version_3() {
+    let header = read(&A_AND_B).unwrap();
+    let said = Summary { version: 3, byte_order: ByteOrder::Little, entries: 0, tensors: 2, alignment: 32, header_end: 90, data_start: 96 };
+    assert_eq!(header.summary(), said);
+    assert_eq!(measure(&A_AND_B), Ok(said));
+
+    let tensors: Vec<_> = header.tensors().collect();
+    assert_eq!(tensors.len(), 2);
+    let (a, b) = (tensors[0], tensors[1]);
+    assert_eq!((a.name(), a.kind(), a.lengths(), a.offset(), a.size()), (&b"a"[..], 0, &[5][..], 0, 20));
+    assert_eq!((b.name(), b.kind(), b.lengths(), b.offset(), b.size()), (&b"b"[..], 1, &[3][..], 32, 6));
+    assert_eq!(a.shape(), [5, 1, 1, 1]);
+    assert_eq!(header.tensors().next_back(), Some(b));
+}
+
+#[test]
+fn a_and_b_in_other_versions_and_orders() {
+    for (version, big, end) in [(1, false, 74), (2, false, 90), (3, false, 90), (1, true, 74), (2, true, 90), (3, true, 90)] {
+        let bytes = a_and_b(version, big);
+        let header = read(&bytes).unwrap();
+        assert_eq!((header.version(), header.header_end(), header.data_start()), (version, end, 96));
+        assert_eq!(header.byte_order(), if big { ByteOrder::Big } else { ByteOrder::Little });
+        let sizes: Vec<_> = header.tensors().map(|tensor| (tensor.offset(), tensor.size())).collect();
+        assert_eq!(sizes, [(0, 20), (32, 6)]);
+    }
+    assert_eq!(a_and_b(3, false), A_AND_B);
+    assert_eq!(a_and_b(3, true)[..8], [0x46, 0x55, 0x47, 0x47, 0, 0, 0, 3]);
+}
+
+#[test]
+fn ranges_by_number_and_by_name() {
+    let header = read(&A_AND_B).unwrap();
+    assert_eq!(header.range_of(0), Ok(96..116));
+    assert_eq!(header.range_of(1), Ok(128..134));
+    assert_eq!(header.range_of(2), Err(NoRange::NoSuchTensor));
+    assert_eq!(header.range_of_name("a"), Ok(96..116));
+    assert_eq!(header.range_of_name("b"), Ok(128..134));
+    assert_eq!(header.range_of_name("c"), Err(NoRange::NoSuchTensor));
+    assert_eq!(header.range_of_name(""), Err(NoRange::NoSuchTensor));
+    assert_eq!(header.find_tensor("b").map(|(index, _)| index), Some(1));
+}
+
+#[test]
+fn of_equal_names_the_first() {
+    let file = made(3, false, 3, 0).tensor("x", &[8], 0, 0).tensor("y", &[8], 0, 32).tensor("y", &[8], 0, 64).bytes.clone();
+    let header = read(&file).unwrap();
+    let (index, tensor) = header.find_tensor("y").unwrap();
+    assert_eq!((index, tensor.offset()), (1, 32));
+}
+
+#[test]
+fn the_range_check() {
+    let header = read(&A_AND_B).unwrap();
+    assert_eq!(header.check_ranges(134), Ok(()));
+    assert_eq!(header.check_ranges(133), Err(Refusal { number: 20, place: 1 }));
+    assert_eq!(header.check_ranges(116), Err(Refusal { number: 20, place: 1 }));
+    assert_eq!(header.check_ranges(115), Err(Refusal { number: 20, place: 0 }));
+    assert_eq!(header.check_ranges(0), Err(Refusal { number: 20, place: 0 }));
+}
+
+#[test]
+fn a_range_that_no_file_has() {
+    // The data starts at 96: both tensors would start above 2^64 - 1.
+    let file = made(3, false, 2, 0).tensor("a", &[], 0, u64::MAX - 63).tensor("b", &[], 0, u64::MAX - 67).bytes.clone();
+    let header = read(&file).unwrap();
+    assert_eq!(header.data_start(), 96);
+    assert_eq!(header.tensor(0).unwrap().range(), None);
+    assert_eq!(header.range_of(0), Err(NoRange::Overflow));
+    assert_eq!(header.range_of_name("b"), Err(NoRange::Overflow));
+    assert_eq!(header.check_ranges(u64::MAX), Err(Refusal { number: 20, place: 0 }));
+}
+
+#[test]
+fn the_last_byte_that_a_file_can_have() {
+    // A tensor of 4 bytes: 64 + offset + 4 = 2^64 - 1.
+    let mut file = made(3, false, 1, 0).tensor("a", &[], 0, u64::MAX - 68).bytes.clone();
+    let header = read(&file).unwrap();
+    assert_eq!((header.header_end(), header.data_start()), (49, 64));
+    assert_eq!(header.range_of(0), Ok(u64::MAX - 4..u64::MAX));
+    assert_eq!(header.check_ranges(u64::MAX), Ok(()));
+    assert_eq!(header.check_ranges(u64::MAX - 1), Err(Refusal { number: 20, place: 0 }));
+    // One byte further on it would end at 2^64.
+    file[41] += 1;
+    let header = read(&file).unwrap();
+    assert_eq!(header.range_of(0), Err(NoRange::Overflow));
+    assert_eq!(header.check_ranges(u64::MAX), Err(Refusal { number: 20, place: 0 }));
+}
+
+#[test]
+fn sizes_of_known_shapes() {
+    for (kind, lengths, size) in [
+        (2, &[33][..], 18),
+        (0, &[], 4),
+        (0, &[(1 << 62) - 1], u64::MAX - 3),
+        (0, &[0, 1 << 32, 1 << 32], 0),
+        (31, &[64], 0),
+        (39, &[256], 273),
+    ] {
+        let file = made(3, false, 1, 0).tensor("t", lengths, kind, 0).bytes.clone();
+        assert_eq!(read(&file).unwrap().tensor(0).unwrap().size(), size, "kind {kind}, lengths {lengths:?}");
+    }
+}
+
+#[test]
+fn bytes_that_follow_change_nothing() {
+    let mut longer = A_AND_B.to_vec();
+    longer.extend([0xff; 100]);
+    assert_eq!(measure(&longer), measure(&A_AND_B));
+    assert!(read(&longer).unwrap().tensors().eq(read(&A_AND_B).unwrap().tensors()));
+}
+
+#[test]
+fn a_header_that_is_cut_off() {
+    // Where each field starts.
+    let fields = [0, 4, 8, 16, 24, 32, 33, 37, 45, 49, 57, 65, 66, 70, 78, 82, 90];
+    for pair in fields.windows(2) {
+        for end in pair[0]..pair[1] {
+            let refusal = read(&A_AND_B[..end]).unwrap_err();
+            assert_eq!((refusal.number, refusal.place), (1, pair[0] as u64), "{end} bytes");
+            assert!(refusal.wants_more());
+        }
+    }
+}
+
+#[test]
+fn alignments() {
+    // The last of equal keys decides; what is unusable means 32.
+    for (values, alignment, start) in
+        [(&[64][..], 64, 64), (&[64, 8], 8, 96), (&[64, 12], 32, 96), (&[0], 32, 64), (&[1 << 20], 1 << 20, 1 << 20)]
+    {
+        let mut file = made(3, false, 0, values.len() as u64);
+        for value in values {
+            file.key("general.alignment", 4).number(4, *value);
+        }
+        let header = read(&file.bytes).unwrap();
+        assert_eq!((header.alignment(), header.data_start()), (alignment, start), "{values:?}");
+    }
+}
+
+#[test]
+fn rows_of_the_callers() {
+    let file = made(3, false, 1, 1).key("k", 4).number(4, 7).tensor("t", &[2, 3], 0, 0).bytes.clone();
+    let mut entries = [[9; 7]; 2];
+    let mut tensors = [[9; 10]; 2];
+    let summary = Options::new().read_rows(&file, &mut entries, &mut tensors).unwrap();
+    assert_eq!((summary.entries, summary.tensors), (1, 1));
+    // The key's place and length, the type, the value; the name's place and length, kind, dimensions, four lengths, offset, size.
+    assert_eq!(entries, [[32, 1, 4, 7, 0, 0, 0], [9; 7]]);
+    assert_eq!(tensors, [[49, 1, 0, 2, 2, 3, 1, 1, 0, 24], [9; 10]]);
+}

@@ -1,0 +1,64 @@
+//! Files for tests, made field by field.
+#![allow(dead_code)]
+
+pub struct Made {
+    pub bytes: Vec<u8>,
+    version: u32,
+    big: bool,
+}
+
+/// The magic, the version and the two counts.
+pub fn made(version: u32, big: bool, tensors: u64, entries: u64) -> Made {
+    let magic: &[u8] = if big { b"FUGG" } else { b"GGUF" };
+    let mut made = Made { bytes: magic.to_vec(), version, big };
+    made.number(4, version.into());
+    made.size(tensors);
+    made.size(entries);
+    made
+}
+
+impl Made {
+    /// A number of so many bytes.
+    pub fn number(&mut self, width: usize, value: u64) -> &mut Made {
+        if self.big {
+            self.bytes.extend(&value.to_be_bytes()[8 - width..]);
+        } else {
+            self.bytes.extend(&value.to_le_bytes()[..width]);
+        }
+        self
+    }
+
+    /// A size: 4 bytes in version 1, else 8.
+    pub fn size(&mut self, n: u64) -> &mut Made {
+        self.number(if self.version == 1 { 4 } else { 8 }, n)
+    }
+
+    pub fn text(&mut self, text: impl AsRef<[u8]>) -> &mut Made {
+        self.size(text.as_ref().len() as u64);
+        self.bytes.extend(text.as_ref());
+        self
+    }
+
+    /// A key and a value's type; the value follows.
+    pub fn key(&mut self, key: &str, value_type: u64) -> &mut Made {
+        self.text(key).number(4, value_type)
+    }
+
+    /// A key and an array's types and count; the items follow.
+    pub fn array(&mut self, key: &str, item_type: u64, count: u64) -> &mut Made {
+        self.key(key, 9).number(4, item_type).size(count)
+    }
+
+    pub fn tensor(&mut self, name: &str, lengths: &[u64], kind: u64, offset: u64) -> &mut Made {
+        self.text(name).number(4, lengths.len() as u64);
+        for length in lengths {
+            self.number(8, *length);
+        }
+        self.number(4, kind).number(8, offset)
+    }
+}
+
+/// The tensors a (kind 0, length 5) and b (kind 1, length 3).
+pub fn a_and_b(version: u32, big: bool) -> Vec<u8> {
+    made(version, big, 2, 0).tensor("a", &[5], 0, 0).tensor("b", &[3], 1, 32).bytes.clone()
+}

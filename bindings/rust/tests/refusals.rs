@@ -1,0 +1,168 @@
+//! Every refusal that a small file reaches, with its number and its place.
+//!
+//! In version 3 the first record starts at 24. An entry with a key of one byte has its type at 33; a tensor with a name of one byte and one
+//! length has its dimension count at 33 and its kind at 45, and ends at 57.
+
+mod made;
+
+use made::{a_and_b, made};
+use strutpebble::{file_type, find, find_string, measure, model_family, read, NoString, Options, Refusal};
+
+/// The refusal of the reader with default options, which every question gives too.
+fn refused(file: &[u8]) -> (u64, u64) {
+    let refusal = read(file).unwrap_err();
+    assert_eq!(measure(file), Err(refusal));
+    assert_eq!(find(file, "k"), Err(refusal));
+    assert_eq!(find_string(file, "k"), Err(NoString::Refused(refusal)));
+    assert_eq!(model_family(file), Err(NoString::Refused(refusal)));
+    assert_eq!(file_type(file), Err(refusal));
+    (refusal.number, refusal.place)
+}
+
+#[test]
+fn cut_off_1() {
+    assert_eq!(refused(b""), (1, 0));
+    assert_eq!(refused(b"XYZ"), (1, 0));
+    assert_eq!(refused(b"GGUF\x03\0\0"), (1, 4));
+    assert_eq!(refused(&made(3, false, 0, 1).bytes), (1, 24));
+    // A string of 2^30 bytes may be there, and is not in this prefix.
+    assert_eq!(refused(&made(3, false, 0, 1).size(1 << 30).bytes), (1, 32));
+    // An item that is missing is refused at its own start: items of two bytes from 49 on, the last of three cut in half.
+    assert_eq!(refused(&made(3, false, 0, 1).array("k", 2, 3).number(2, 1).number(2, 2).number(1, 3).bytes), (1, 53));
+}
+
+#[test]
+fn magics_2_and_3() {
+    for older in [0x6767_6d6cu32, 0x6767_6d66, 0x6767_6a74, 0x6767_6c61] {
+        assert_eq!(refused(&older.to_le_bytes()), (2, 0));
+        assert_eq!(refused(&older.to_be_bytes()), (3, 0));
+    }
+    assert_eq!(refused(b"ABCD"), (3, 0));
+    assert_eq!(refused(b"GGUG\x03\0\0\0"), (3, 0));
+}
+
+#[test]
+fn versions_4_and_5() {
+    assert_eq!(refused(b"GGUF\0\0\0\0"), (4, 4));
+    assert_eq!(refused(b"GGUF\x04\0\0\0"), (4, 4));
+    // The bytes of version 3 in the other order.
+    assert_eq!(refused(b"FUGG\x03\0\0\0"), (4, 4));
+    let file = a_and_b(3, false);
+    assert_eq!(Options::new().highest_version(2).read(&file).unwrap_err(), Refusal { number: 5, place: 4 });
+    assert_eq!(Options::new().highest_version(0).read(&file).unwrap_err(), Refusal { number: 5, place: 4 });
+    assert!(Options::new().highest_version(2).read(&a_and_b(2, false)).is_ok());
+    assert!(Options::new().highest_version(9).read(&file).is_ok());
+}
+
+#[test]
+fn too_few_rows_6() {
+    for (version, entries_at) in [(1, 12), (3, 16)] {
+        let file = made(version, false, 1, 1).key("k", 0).number(1, 5).tensor("t", &[], 0, 0).bytes.clone();
+        let mut entries = [[7; 7]; 1];
+        let mut tensors = [[7; 10]; 1];
+        let options = Options::new();
+        assert_eq!(options.read_rows(&file, &mut entries, &mut []), Err(Refusal { number: 6, place: 8 }));
+        assert_eq!(options.read_rows(&file, &mut [], &mut tensors), Err(Refusal { number: 6, place: entries_at }));
+        assert_eq!(options.read_rows(&file, &mut [], &mut []), Err(Refusal { number: 6, place: 8 }));
+        assert_eq!((entries, tensors), ([[7; 7]], [[7; 10]]));
+        assert!(options.read_rows(&file, &mut entries, &mut tensors).is_ok());
+        // The crate's own rows are always enough.
+        assert!(read(&file).is_ok());
+    }
+}
+
+#[test]
+fn a_refusal_leaves_the_rows() {
+    // A good entry, and a tensor of a kind that there is not.
+    let file = made(3, false, 1, 1).key("k", 0).number(1, 5).tensor("t", &[], 40, 0).bytes.clone();
+    let mut entries = [[7; 7]; 3];
+    let mut tensors = [[7; 10]; 3];
+    assert_eq!(Options::new().read_rows(&file, &mut entries, &mut tensors), Err(Refusal { number: 11, place: 51 }));
+    assert_eq!((entries, tensors), ([[7; 7]; 3], [[7; 10]; 3]));
+}
+
+#[test]
+fn long_strings_7() {
+    assert_eq!(refused(&made(3, false, 0, 1).size((1 << 30) + 1).bytes), (7, 24));
+    assert_eq!(refused(&made(1, false, 0, 1).size((1 << 30) + 1).bytes), (7, 16));
+    assert_eq!(refused(&made(3, true, 0, 1).size(u64::MAX).bytes), (7, 24));
+    assert_eq!(refused(&made(3, false, 0, 1).key("k", 8).size(u64::MAX).bytes), (7, 37));
+    assert_eq!(refused(&made(3, false, 1, 0).size((1 << 30) + 1).bytes), (7, 24));
+}
+
+#[test]
+fn types_8() {
+    assert_eq!(refused(&made(3, false, 0, 1).key("k", 13).bytes), (8, 33));
+    assert_eq!(refused(&made(3, false, 0, 1).array("k", 13, 0).bytes), (8, 37));
+    assert_eq!(refused(&made(3, false, 0, 1).key("k", 9).number(4, 13).bytes), (8, 37));
+}
+
+#[test]
+fn arrays_of_arrays_9() {
+    assert_eq!(refused(&made(3, false, 0, 1).array("k", 9, 1).bytes), (9, 37));
+    assert!(read(&made(3, false, 0, 1).array("k", 9, 0).bytes).is_ok());
+}
+
+#[test]
+fn dimensions_10() {
+    assert_eq!(refused(&made(3, false, 1, 0).text("t").number(4, 5).bytes), (10, 33));
+    assert!(read(&made(3, false, 1, 0).tensor("t", &[1, 2, 3, 4], 0, 0).bytes).is_ok());
+}
+
+#[test]
+fn kinds_11_and_12() {
+    for kind in [4, 5, 40, 41, u32::MAX.into()] {
+        assert_eq!(refused(&made(3, false, 1, 0).tensor("t", &[1], kind, 0).bytes), (11, 45));
+    }
+    let file = made(3, false, 1, 0).tensor("t", &[1], 39, 0).bytes.clone();
+    assert_eq!(Options::new().highest_kind(38).read(&file).unwrap_err(), Refusal { number: 12, place: 45 });
+    assert!(Options::new().highest_kind(39).read(&file).is_ok());
+    // No ceiling makes a kind of 40.
+    let file = made(3, false, 1, 0).tensor("t", &[1], 40, 0).bytes.clone();
+    assert_eq!(Options::new().highest_kind(100).read(&file).unwrap_err(), Refusal { number: 11, place: 45 });
+}
+
+#[test]
+fn products_and_sizes_13_14_15() {
+    assert_eq!(refused(&made(3, false, 1, 0).tensor("t", &[1 << 32, 1 << 32, 0], 0, 0).bytes), (13, 24));
+    assert_eq!(refused(&made(3, false, 1, 0).tensor("t", &[1 << 62], 0, 0).bytes), (14, 24));
+    // Kind 24 has one byte for each of its numbers before the division: only the total is too great, at the second tensor.
+    let half = 1 << 63;
+    assert_eq!(refused(&made(3, false, 2, 0).tensor("s", &[half], 24, 0).tensor("t", &[half], 24, 0).bytes), (15, 57));
+    assert!(read(&made(3, false, 2, 0).tensor("s", &[half], 24, 0).tensor("t", &[half - 1], 24, 0).bytes).is_ok());
+}
+
+#[test]
+fn counts_that_are_made_up() {
+    // No table of 2^64 - 1 rows is asked for: the first record that is not there refuses.
+    for (tensors, entries) in [(u64::MAX, 0), (0, u64::MAX), (u64::MAX, u64::MAX)] {
+        assert_eq!(refused(&made(3, false, tensors, entries).bytes), (1, 24));
+    }
+    assert_eq!(refused(&made(1, true, u32::MAX.into(), u32::MAX.into()).bytes), (1, 16));
+    // A record that is there and is bad refuses as ever.
+    assert_eq!(refused(&made(3, false, 0, u64::MAX).key("k", 13).bytes), (8, 33));
+    assert_eq!(refused(&made(3, false, u64::MAX, 0).tensor("t", &[1], 40, 0).bytes), (11, 45));
+    // So does a count of items.
+    assert_eq!(refused(&made(3, false, 0, 1).array("k", 0, u64::MAX).number(1, 1).bytes), (1, 50));
+}
+
+#[test]
+fn words_for_every_number() {
+    let numbers: Vec<u64> = (1..=15).chain([18, 20]).collect();
+    let mut reasons: Vec<_> = numbers.iter().map(|number| Refusal { number: *number, place: 0 }.reason()).collect();
+    let unknown = Refusal { number: 0, place: 0 }.reason();
+    assert!(!reasons.contains(&unknown));
+    reasons.sort();
+    reasons.dedup();
+    assert_eq!(reasons.len(), numbers.len());
+    for number in numbers {
+        assert_eq!(Refusal { number, place: 0 }.wants_more(), number == 1);
+    }
+    let cut_off = Refusal { number: 1, place: 24 };
+    assert_eq!(cut_off.to_string(), "refused 1 at byte 24: the header does not end inside these bytes: fetch more");
+    let past = Refusal { number: 20, place: 7 };
+    assert_eq!(past.to_string(), "refused 20 at tensor 7: its data ends after the file");
+    assert_eq!(NoString::Refused(cut_off).to_string(), cut_off.to_string());
+    let error: Box<dyn std::error::Error> = Box::new(NoString::Refused(cut_off));
+    assert_eq!(error.source().unwrap().to_string(), cut_off.to_string());
+}

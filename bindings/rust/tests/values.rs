@@ -1,0 +1,218 @@
+//! Values of every type, arrays and their items, and the questions by key.
+
+mod made;
+
+use made::{made, Made};
+use strutpebble::{file_type, find, find_string, model_family, read, NoString, Options, Type, Value};
+
+/// Each version and byte order.
+const DIALECTS: [(u32, bool); 4] = [(1, false), (1, true), (3, false), (3, true)];
+
+/// A file with one entry for each type that is not an array.
+fn one_of_each(version: u32, big: bool) -> Made {
+    let mut file = made(version, big, 0, 13);
+    file.key("u8", 0).number(1, 200);
+    file.key("i8", 1).number(1, 0xfb);
+    file.key("u16", 2).number(2, 60000);
+    file.key("i16", 3).number(2, 0xfed4);
+    file.key("u32", 4).number(4, 4_000_000_000);
+    file.key("i32", 5).number(4, 0xffff_fff9);
+    file.key("f32", 6).number(4, 0x3fc0_0000);
+    file.key("yes", 7).number(1, 2);
+    file.key("no", 7).number(1, 0);
+    file.key("text", 8).text("strut");
+    file.key("u64", 10).number(8, u64::MAX);
+    file.key("i64", 11).number(8, 1 << 63);
+    file.key("f64", 12).number(8, 0xbfd0_0000_0000_0000);
+    file
+}
+
+#[test]
+fn values_of_every_type() {
+    let values = [
+        ("u8", Value::U8(200)),
+        ("i8", Value::I8(-5)),
+        ("u16", Value::U16(60000)),
+        ("i16", Value::I16(-300)),
+        ("u32", Value::U32(4_000_000_000)),
+        ("i32", Value::I32(-7)),
+        ("f32", Value::F32(1.5)),
+        ("yes", Value::Bool(true)),
+        ("no", Value::Bool(false)),
+        ("text", Value::String(b"strut")),
+        ("u64", Value::U64(u64::MAX)),
+        ("i64", Value::I64(i64::MIN)),
+        ("f64", Value::F64(-0.25)),
+    ];
+    for (version, big) in DIALECTS {
+        let file = one_of_each(version, big).bytes;
+        let header = read(&file).unwrap();
+        assert_eq!(header.entries().len(), 13);
+        for (entry, (key, value)) in header.entries().zip(values) {
+            assert_eq!((entry.key(), entry.value()), (key.as_bytes(), value));
+            assert_eq!(header.get(key), Some(value));
+            assert_eq!(find(&file, key), Ok(Some(entry)));
+        }
+    }
+}
+
+#[test]
+fn a_value_as_another_type() {
+    let file = one_of_each(3, false).bytes;
+    let header = read(&file).unwrap();
+    let get = |key| header.get(key).unwrap();
+    assert_eq!((get("u8").as_u64(), get("u8").as_i64()), (Some(200), Some(200)));
+    assert_eq!((get("i8").as_u64(), get("i8").as_i64()), (None, Some(-5)));
+    assert_eq!((get("i32").as_u64(), get("i32").as_i64()), (None, Some(-7)));
+    assert_eq!((get("u64").as_u64(), get("u64").as_i64()), (Some(u64::MAX), None));
+    assert_eq!((get("i64").as_u64(), get("i64").as_i64()), (None, Some(i64::MIN)));
+    assert_eq!((get("f32").as_f64(), get("f64").as_f64()), (Some(1.5), Some(-0.25)));
+    assert_eq!((get("f32").as_u64(), get("u8").as_f64()), (None, None));
+    assert_eq!((get("yes").as_bool(), get("no").as_bool(), get("u8").as_bool()), (Some(true), Some(false), None));
+    assert_eq!((get("text").as_bytes(), get("text").as_str()), (Some(&b"strut"[..]), Some("strut")));
+    assert_eq!((get("u8").as_bytes(), get("u8").as_array()), (None, None));
+    assert_eq!((get("i64").value_type(), get("i64").value_type().name()), (Type::I64, "i64"));
+}
+
+#[test]
+fn strings_are_bytes() {
+    let file = made(3, false, 0, 2).key("k", 8).text(b"\xff\0").key("", 8).text("").bytes.clone();
+    let header = read(&file).unwrap();
+    assert_eq!(header.get("k").unwrap().as_bytes(), Some(&b"\xff\0"[..]));
+    assert_eq!(header.get("k").unwrap().as_str(), None);
+    assert_eq!(header.get("").unwrap().as_str(), Some(""));
+    // A string is a part of the prefix, and no copy.
+    let part = find_string(&file, "k").unwrap();
+    assert_eq!(part.as_ptr(), file[45..].as_ptr());
+}
+
+#[test]
+fn arrays_of_scalars() {
+    for (version, big) in DIALECTS {
+        let mut file = made(version, big, 0, 6);
+        file.array("u16", 2, 3).number(2, 1).number(2, 256).number(2, 65535);
+        file.array("i8", 1, 2).number(1, 0x80).number(1, 0x7f);
+        file.array("bool", 7, 3).number(1, 0).number(1, 1).number(1, 7);
+        file.array("f32", 6, 1).number(4, 0x4048_0000);
+        file.array("i64", 11, 2).number(8, u64::MAX).number(8, 2);
+        file.array("f64", 12, 1).number(8, 0x4008_0000_0000_0000);
+        let header = read(&file.bytes).unwrap();
+        let items = |key| header.get(key).unwrap().as_array().unwrap().iter().collect::<Vec<_>>();
+        assert_eq!(items("u16"), [Value::U16(1), Value::U16(256), Value::U16(65535)]);
+        assert_eq!(items("i8"), [Value::I8(-128), Value::I8(127)]);
+        assert_eq!(items("bool"), [Value::Bool(false), Value::Bool(true), Value::Bool(true)]);
+        assert_eq!(items("f32"), [Value::F32(3.125)]);
+        assert_eq!(items("i64"), [Value::I64(-1), Value::I64(2)]);
+        assert_eq!(items("f64"), [Value::F64(3.0)]);
+        // By the question for one key, the same items.
+        let found = find(&file.bytes, "i64").unwrap().unwrap();
+        assert_eq!(found.value(), header.get("i64").unwrap());
+    }
+}
+
+/// Five strings under a tokenizer's key, and five under another.
+fn tokens(version: u32, big: bool) -> Made {
+    let mut file = made(version, big, 0, 3);
+    for key in ["tokenizer.ggml.tokens", "general.tags"] {
+        file.array(key, 8, 5);
+        for item in ["<s>", "", "a", "strut", "pebble"] {
+            file.text(item);
+        }
+    }
+    file.key("after", 0).number(1, 1);
+    file
+}
+
+#[test]
+fn arrays_of_strings_and_the_cap() {
+    let all = ["<s>", "", "a", "strut", "pebble"].map(|item| Value::String(item.as_bytes()));
+    for (version, big) in DIALECTS {
+        let file = tokens(version, big).bytes;
+        for (options, kept) in
+            [(Options::new(), 3), (Options::new().cap(0), 0), (Options::new().cap(4), 4), (Options::new().cap(u64::MAX), 5)]
+        {
+            let header = options.read(&file).unwrap();
+            let array = header.get("tokenizer.ggml.tokens").unwrap().as_array().unwrap();
+            assert_eq!((array.item_type(), array.len(), array.kept()), (Type::String, 5, kept as u64));
+            assert_eq!(array.iter().len(), kept);
+            assert!(array.into_iter().eq(all[..kept].iter().copied()));
+            assert!(array.iter_all().eq(all));
+            let other = header.get("general.tags").unwrap().as_array().unwrap();
+            assert_eq!((other.len(), other.kept()), (5, 5));
+            assert!(other.iter().eq(all));
+            assert_eq!(header.get("after"), Some(Value::U8(1)));
+        }
+        let found = find(&file, "tokenizer.ggml.tokens").unwrap().unwrap();
+        assert_eq!(found.value().as_array().unwrap().kept(), 3);
+    }
+}
+
+#[test]
+fn an_item_after_the_kept_ones_is_checked() {
+    // The fourth item's size is above 2^30. The key is at 32, its type at 53, the first item at 69; each item before has 9 bytes.
+    let mut file = made(3, false, 0, 1);
+    file.array("tokenizer.ggml.tokens", 8, 4).text("a").text("b").text("c").size(u64::MAX);
+    let refusal = read(&file.bytes).unwrap_err();
+    assert_eq!((refusal.number, refusal.place), (7, 96));
+}
+
+#[test]
+fn an_array_of_no_items() {
+    let file = made(3, false, 0, 1).array("k", 9, 0).bytes.clone();
+    let array = read(&file).unwrap().get("k").unwrap().as_array().unwrap();
+    assert_eq!((array.item_type(), array.len(), array.is_empty(), array.iter().next()), (Type::Array, 0, true, None));
+}
+
+#[test]
+fn of_equal_keys_the_last() {
+    let file = made(3, false, 0, 3).key("k", 4).number(4, 1).key("k", 8).text("two").key("j", 4).number(4, 3).bytes.clone();
+    let header = read(&file).unwrap();
+    assert_eq!(header.entries().filter(|entry| entry.key() == b"k").count(), 2);
+    assert_eq!(header.get("k"), Some(Value::String(b"two")));
+    assert_eq!(find(&file, "k").unwrap().unwrap().value(), Value::String(b"two"));
+    assert_eq!(find_string(&file, "k"), Ok(&b"two"[..]));
+}
+
+#[test]
+fn keys_that_are_not_there() {
+    let file = made(3, false, 0, 1).key("key", 4).number(4, 1).bytes.clone();
+    for key in ["", "k", "ke", "keys", "KEY"] {
+        assert_eq!(find(&file, key), Ok(None));
+        assert_eq!(find_string(&file, key), Err(NoString::Absent));
+        assert_eq!(read(&file).unwrap().get(key), None);
+    }
+    assert_eq!(find_string(&file, "key"), Err(NoString::OtherType));
+}
+
+#[test]
+fn the_models_family() {
+    let file = made(3, false, 0, 1).key("general.architecture", 8).text("llama").bytes.clone();
+    assert_eq!(model_family(&file), Ok(&b"llama"[..]));
+    assert_eq!(read(&file).unwrap().model_family(), Some(&b"llama"[..]));
+    let file = made(3, false, 0, 1).key("general.architecture", 4).number(4, 1).bytes.clone();
+    assert_eq!(model_family(&file), Err(NoString::OtherType));
+    assert_eq!(read(&file).unwrap().model_family(), None);
+    assert_eq!(model_family(&made(3, false, 0, 0).bytes), Err(NoString::Absent));
+}
+
+#[test]
+fn the_files_type() {
+    let cases = [
+        (4, 4, 0, Some(0)),
+        (4, 4, 15, Some(15)),
+        (0, 1, 24, Some(24)),
+        (11, 8, 7, Some(7)),
+        (4, 4, 25, None),
+        (5, 4, 0xffff_ffff, None),
+        (6, 4, 1, None),
+        (7, 1, 1, None),
+    ];
+    for (value_type, width, value, told) in cases {
+        let file = made(3, false, 0, 1).key("general.file_type", value_type).number(width, value).bytes.clone();
+        assert_eq!(file_type(&file), Ok(told), "type {value_type}, value {value}");
+        assert_eq!(read(&file).unwrap().file_type(), told);
+    }
+    let file = made(3, false, 0, 1).key("general.file_type", 8).text("1").bytes.clone();
+    assert_eq!(file_type(&file), Ok(None));
+    assert_eq!(file_type(&made(3, false, 0, 0).bytes), Ok(None));
+}
