@@ -1,0 +1,7 @@
+pub mod Again
+pub mod Chosen
+pub mod Counted
+pub mod Facts
+pub mod Filled
+pub mod Listed
+pub mod Within

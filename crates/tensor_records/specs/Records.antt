@@ -1,0 +1,72 @@
+-- A row as a record, and what the functions over a slice of records answer and leave there.
+use Prim.Native.Nat.{ℕ}
+use mathlib.Core.Bool.{Bool}
+use mathlib.Core.List.{List, [], _∷_}
+use lib.Dec.{ltb}
+use lib.ListN.{length, getD, set, take}
+use Rattle.fields.specs.Choice.{if_then_else_}
+use Rattle.fields.specs.Reading.{Answer}
+use Rattle.fields.specs.declared.Limits.{Limits}
+use Rattle.records.specs.Rows.{tensorRow}
+use Rattle.records.specs.declared.Tensor.{Tensor}
+use Rattle.header.specs.Format.{Whole}
+use Rattle.header.specs.Answers.{wholeOf}
+use Rattle.header.specs.declared.HeaderRead.{HeaderRead}
+use Rattle.header.specs.declared.HeaderRead.the-variants.{Found as FoundHeader, Refused as NoHeader}
+use Rattle.tensor_records.specs.declared.TensorRecord.{TensorRecord}
+use Rattle.tensor_records.specs.declared.RecordGot.{RecordGot}
+use Rattle.tensor_records.specs.declared.RecordGot.the-variants.{Found, Nothing}
+
+-- word k of a row
+abbrev word : ℕ → List ℕ → ℕ
+word k row = getD row k 0
+
+-- a row of ten words as a record
+abbrev pub recordOf : List ℕ → TensorRecord
+recordOf row = record {
+  «name_place» = word 0 row;
+  «name_len» = word 1 row;
+  kind = word 2 row;
+  dimensions = word 3 row;
+  first = word 4 row;
+  second = word 5 row;
+  third = word 6 row;
+  fourth = word 7 row;
+  offset = word 8 row;
+  size = word 9 row;
+}
+
+-- whether there is a record with the number i
+abbrev pub keptOf : List TensorRecord → ℕ → Bool
+keptOf records i = ltb i (length records)
+
+-- the records with r at the number i, where there is one
+abbrev pub putAt : List TensorRecord → ℕ → TensorRecord → List TensorRecord
+putAt records i r = if keptOf records i then set records i r else records
+
+-- the record of no tensor
+abbrev pub blank : TensorRecord
+blank = recordOf []
+
+-- the record with the number i, where there is one
+abbrev pub gotAt : List TensorRecord → ℕ → RecordGot
+gotAt records i = if keptOf records i then Found (getD records i blank) else Nothing
+
+-- the records with those of the rows in front, as far as there are both
+abbrev pub filledFrom : List TensorRecord → List (List ℕ) → List TensorRecord
+filledFrom [] rows = []
+filledFrom (r ∷ records) [] = r ∷ records
+filledFrom (r ∷ records) (row ∷ rows) = recordOf row ∷ filledFrom records rows
+
+-- how many tensors an answer tells of
+abbrev pub tensorsIn : HeaderRead → ℕ
+tensorsIn (FoundHeader h) = h .tensors
+tensorsIn (NoHeader n p) = 0
+
+-- a tensor's record: its row's
+abbrev pub tensorRecord : Tensor → TensorRecord
+tensorRecord t = recordOf (tensorRow t)
+
+-- the run that a reader of records answers and fills from: there is room for as many tensors as there are both rows and records
+abbrev pub listingOf : Limits → ℕ → List (List ℕ) → List (List ℕ) → List TensorRecord → List ℕ → Answer Whole
+listingOf limits cap entries rows records s = wholeOf limits cap entries (take (length records) rows) s
