@@ -38,9 +38,14 @@ fn ours(bytes: &[u8], cap: u64) -> Ours {
 }
 
 /// The refusal's number that an error of the original stands for.
-fn class(message: &str) -> u64 {
-    const CLASSES: [(&str, u64); 11] = [
+pub fn class(message: &str) -> u64 {
+    const CLASSES: [(&str, u64); 16] = [
         ("failed to fill whole buffer", 1),
+        ("unsupport ggml format", 2),
+        ("unsupport ggmf format", 2),
+        ("unsupport ggjt format", 2),
+        ("unsupport ggla format", 2),
+        ("invalid file magic", 3),
         ("invalid version", 4),
         ("string length", 7),
         ("unsupport metadata value type", 8),

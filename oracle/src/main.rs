@@ -1,17 +1,27 @@
-//! Holds the reader against the original: both are given the same bytes, and every result is compared.
+//! Holds the reader and the writer against the original's: both are given the same, and every result is compared.
 
 #[allow(dead_code, unused)]
 #[path = "../original/src/lib.rs"]
 mod original;
 
+#[allow(dead_code)]
+#[path = "../original/src/writer.rs"]
+mod writer;
+
 mod compare;
 mod inputs;
+mod sample;
+mod writers;
+
+// The original's writer names these by its own crate.
+use original::{FILE_MAGIC_GGUF_LE, GGUF_VERSION_V1, GGUF_VERSION_V2, GGUF_VERSION_V3};
+
 
 use compare::Agreed;
 use inputs::{damaged, header, Random};
 
 fn main() {
-    let headers: u64 = std::env::args().nth(1).and_then(|n| n.parse().ok()).unwrap_or(1000);
+    let arguments: Vec<String> = std::env::args().skip(1).collect();
     // The original panics at kind 40; that is expected, and not worth a message each time.
     std::panic::set_hook(Box::new(|info| {
         let text = info.to_string();
@@ -19,6 +29,17 @@ fn main() {
             eprintln!("{text}");
         }
     }));
+    match &arguments[..] {
+        [option, file, scratch] if option == "--sample" => sample::write(file, scratch),
+        [headers, sheets, scratch] => {
+            compare_readers(headers.parse().expect("how many headers"));
+            compare_writers(sheets.parse().expect("how many sheets"), scratch);
+        }
+        _ => eprintln!("oracle: HEADERS SHEETS SCRATCH, or --sample FILE SCRATCH"),
+    }
+}
+
+fn compare_readers(headers: u64) {
     let mut random = Random::new(0x9E37_79B9_7F4A_7C15);
     let mut agreed = Agreed::default();
     // Every input of up to two bytes, and every magic that stands for something.
@@ -43,6 +64,18 @@ fn main() {
         for bytes in damaged(&made, &mut random) {
             agreed.on(&bytes, cap);
         }
+    }
+    agreed.tell();
+}
+
+fn compare_writers(sheets: u64, scratch: &str) {
+    let mut random = Random::new(0x0DDB_1A5E_5BAD_5EED);
+    let mut agreed = writers::Agreed::default();
+    for told in writers::Told::smallest() {
+        agreed.on(&told, scratch);
+    }
+    for _ in 0..sheets {
+        agreed.on(&writers::Told::new(&mut random), scratch);
     }
     agreed.tell();
 }

@@ -1,0 +1,298 @@
+//! One sheet through both writers, and what they wrote compared up to the start of the data.
+
+use crate::inputs::{Random, WIDTHS};
+use crate::writer::{calculate_tensor_size, GGUFWriter, MetadataValue, TensorInfo};
+use std::collections::BTreeMap;
+
+#[link(name = "strutpebble", kind = "static")]
+extern "C" {
+    fn sp_write(
+        sheet: *const u8, sheet_len: usize, version: u32, big: u32, alignment: u64, out: *mut u8, out_len: usize, answer: *mut [u64; 8],
+    ) -> u64;
+}
+
+/// The bytes of output that this project's writer is lent, and the most that the original is let write after a header.
+const ROOM: usize = 1 << 17;
+const MOST_DATA: u128 = 1 << 16;
+
+/// An item: a scalar's bits, or a text.
+enum Item {
+    Scalar(u64),
+    Text(String),
+}
+
+/// What an entry says: one value, or the items of an array.
+enum Said {
+    One(u8, Item),
+    Array(u8, Vec<Item>),
+}
+
+/// What both writers are told.
+pub struct Told {
+    version: u32,
+    alignment: u64,
+    entries: BTreeMap<String, Said>,
+    tensors: Vec<TensorInfo>,
+}
+
+impl Item {
+    fn of(kind: u8, random: &mut Random) -> Item {
+        if kind == 8 {
+            return Item::Text(text(random));
+        }
+        let sign = 1u64 << (8 * WIDTHS[kind as usize] - 1);
+        let any = random.next() ^ (random.next() << 40);
+        let bits = [0, 1, u64::MAX, sign, any, any][random.below(6) as usize];
+        Item::Scalar(if kind == 7 { bits & 1 } else { bits })
+    }
+
+    /// As the sheet has it.
+    fn put(&self, kind: u8, out: &mut Vec<u8>) {
+        match self {
+            Item::Scalar(bits) => out.extend(&bits.to_be_bytes()[8 - WIDTHS[kind as usize]..]),
+            Item::Text(text) => out.extend(text.as_bytes()),
+        }
+    }
+
+    /// As the original takes it.
+    fn original(&self, kind: u8) -> MetadataValue {
+        match (kind, self) {
+            (_, Item::Text(text)) => MetadataValue::String(text.clone()),
+            (0, Item::Scalar(bits)) => MetadataValue::Uint8(*bits as u8),
+            (1, Item::Scalar(bits)) => MetadataValue::Int8(*bits as i8),
+            (2, Item::Scalar(bits)) => MetadataValue::Uint16(*bits as u16),
+            (3, Item::Scalar(bits)) => MetadataValue::Int16(*bits as i16),
+            (4, Item::Scalar(bits)) => MetadataValue::Uint32(*bits as u32),
+            (5, Item::Scalar(bits)) => MetadataValue::Int32(*bits as i32),
+            (6, Item::Scalar(bits)) => MetadataValue::Float32(f32::from_bits(*bits as u32)),
+            (7, Item::Scalar(bits)) => MetadataValue::Bool(*bits != 0),
+            (10, Item::Scalar(bits)) => MetadataValue::Uint64(*bits),
+            (11, Item::Scalar(bits)) => MetadataValue::Int64(*bits as i64),
+            (_, Item::Scalar(bits)) => MetadataValue::Float64(f64::from_bits(*bits)),
+        }
+    }
+}
+
+fn text(random: &mut Random) -> String {
+    const TEXTS: [&str; 12] = [
+        "general.alignmenT", "general.alignment2", "general.alignmen", "general.architecture", "tokenizer.x", "a", "b", "z", "", "ключ", "名前", "\u{10FFFF}",
+    ];
+    if random.below(4) < 3 {
+        TEXTS[random.below(12) as usize].into()
+    } else {
+        (0..random.below(20)).map(|_| char::from(b' ' + random.below(95) as u8)).collect()
+    }
+}
+
+/// A value of a type that the original's methods can add.
+fn said(random: &mut Random) -> Said {
+    let kind = [4, 5, 6, 7, 8, 10, 9, 9][random.below(8) as usize];
+    if kind != 9 {
+        return Said::One(kind, Item::of(kind, random));
+    }
+    let item = [0, 1, 2, 3, 4, 5, 6, 7, 8, 10, 11, 12][random.below(12) as usize];
+    let count = if random.below(20) == 0 { 0 } else { 1 + random.below(6) };
+    Said::Array(item, (0..count).map(|_| Item::of(item, random)).collect())
+}
+
+fn tensor(random: &mut Random) -> TensorInfo {
+    const LARGE: [u64; 7] = [1 << 16, 1 << 32, 1 << 61, 1 << 62, (1 << 62) - 1, 1 << 63, u64::MAX];
+    if random.below(100) == 0 {
+        // Its end fits, and its padded end does not.
+        return TensorInfo { name: text(random), shape: vec![(1 << 62) - 1], dtype: 0 };
+    }
+    let dimensions = if random.below(60) == 0 { 5 } else { random.below(5) };
+    let is_large = random.below(8) == 0;
+    let length = |random: &mut Random| if is_large && random.below(2) == 0 { LARGE[random.below(7) as usize] } else { random.below(7) };
+    let kind = if random.below(30) == 0 { random.below(45) } else { [0, 1, 2, 3, 6, 7, 8, 9, 10, 14, 20, 24, 27, 30, 34, 35, 39, 12][random.below(18) as usize] };
+    TensorInfo { name: text(random), shape: (0..dimensions).map(|_| length(random)).collect(), dtype: kind as u32 }
+}
+
+impl Told {
+    pub fn new(random: &mut Random) -> Told {
+        let version = if random.below(40) == 0 { [0, 4][random.below(2) as usize] } else { 1 + random.below(3) as u32 };
+        let alignment = match random.below(30) {
+            0 => [0, 4, 12, 1 << 32, (1 << 32) + 4][random.below(5) as usize],
+            1..=9 => [8, 16, 24, 40, 64, 128, 4096, 1 << 16][random.below(8) as usize],
+            _ => 32,
+        };
+        let mut entries: BTreeMap<String, Said> = (0..random.below(6)).map(|_| (text(random), said(random))).collect();
+        // At times the sheet says an alignment itself, mostly the right one; never where the writer's is too large for the original's own zeros.
+        if random.below(8) == 0 && alignment < 1 << 32 {
+            let own = if random.below(4) == 0 { said(random) } else { Said::One([4, 10][random.below(2) as usize], Item::Scalar(alignment)) };
+            entries.insert("general.alignment".into(), own);
+        }
+        let tensors = (0..random.below(4)).map(|_| tensor(random)).collect();
+        Told { version, alignment, entries, tensors }
+    }
+
+    /// The smallest sheets on which the two differ by intent: an empty array of i8, another alignment, five dimensions.
+    pub fn smallest() -> [Told; 3] {
+        let told = |entries, tensors| Told { version: 3, alignment: 32, entries, tensors };
+        let aligned = Said::One(4, Item::Scalar(64));
+        [
+            told([(String::new(), Said::Array(1, vec![]))].into(), vec![]),
+            told([("general.alignment".into(), aligned)].into(), vec![]),
+            told([].into(), vec![TensorInfo { name: String::new(), shape: vec![1; 5], dtype: 0 }]),
+        ]
+    }
+
+    /// The sheet. With `as_u8`, an array of no items is told as one of u8.
+    fn sheet(&self, as_u8: bool) -> Vec<u8> {
+        let length = |out: &mut Vec<u8>, n: usize| out.extend((n as u32).to_be_bytes());
+        let mut sheet = vec![1];
+        for (key, said) in &self.entries {
+            let mut entry = vec![1];
+            length(&mut entry, key.len());
+            entry.extend(key.as_bytes());
+            match said {
+                Said::One(kind, item) => {
+                    entry.push(*kind);
+                    item.put(*kind, &mut entry);
+                }
+                Said::Array(kind, items) => {
+                    entry.extend([9, if as_u8 && items.is_empty() { 0 } else { *kind }]);
+                    length(&mut entry, items.len());
+                    for item in items {
+                        if let Item::Text(text) = item {
+                            length(&mut entry, text.len());
+                        }
+                        item.put(*kind, &mut entry);
+                    }
+                }
+            }
+            length(&mut sheet, entry.len());
+            sheet.extend(entry);
+        }
+        for tensor in &self.tensors {
+            let mut entry = vec![2];
+            length(&mut entry, tensor.name.len());
+            entry.extend(tensor.name.as_bytes());
+            entry.extend(tensor.dtype.to_be_bytes());
+            entry.push(tensor.shape.len() as u8);
+            tensor.shape.iter().for_each(|length| entry.extend(length.to_be_bytes()));
+            length(&mut sheet, entry.len());
+            sheet.extend(entry);
+        }
+        sheet
+    }
+
+    /// The bytes of the data area, where every tensor has a size: the original writes as many zeros.
+    fn data(&self) -> Option<u128> {
+        let unit = u128::from(self.alignment.max(1));
+        self.tensors.iter().try_fold(0, |end: u128, tensor| Some((end + u128::from(calculate_tensor_size(tensor).ok()?)).div_ceil(unit) * unit))
+    }
+
+    /// What the original wrote up to the start of the data, or the refusal that its error stands for.
+    fn theirs(&self, path: &str) -> Result<Vec<u8>, u64> {
+        let mut writer = GGUFWriter::new(path, self.version as i32).map_err(class)?.with_alignment(self.alignment);
+        for (key, said) in &self.entries {
+            match said {
+                Said::Array(kind, items) => writer.add_metadata_array(key, items.iter().map(|item| item.original(*kind)).collect()),
+                Said::One(kind, item) => match item.original(*kind) {
+                    MetadataValue::String(text) => writer.add_metadata(key, &text),
+                    MetadataValue::Uint32(n) => writer.add_metadata_u32(key, n),
+                    MetadataValue::Int32(n) => writer.add_metadata_i32(key, n),
+                    MetadataValue::Uint64(n) => writer.add_metadata_u64(key, n),
+                    MetadataValue::Float32(x) => writer.add_metadata_f32(key, x),
+                    MetadataValue::Bool(yes) => writer.add_metadata_bool(key, yes),
+                    _ => unreachable!("a type that the original has no method for"),
+                },
+            }
+        }
+        self.tensors.iter().for_each(|tensor| writer.add_tensor(tensor.clone()));
+        writer.write().and_then(|()| writer.finalize()).map_err(class)?;
+        let mut bytes = std::fs::read(path).expect("what the original wrote");
+        bytes.truncate(bytes.len() - self.data().expect("a size of each tensor") as usize);
+        Ok(bytes)
+    }
+
+    /// What this project wrote up to the start of the data, or its refusal. What it must not touch is looked at.
+    fn ours(&self, sheet: &[u8]) -> Result<Vec<u8>, u64> {
+        let mut out = vec![7; ROOM];
+        let mut answer = [0; 8];
+        // SAFETY: each pointer comes with the count of what it points to.
+        let number = unsafe {
+            sp_write(sheet.as_ptr(), sheet.len(), self.version, 0, self.alignment, out.as_mut_ptr(), out.len(), &mut answer)
+        };
+        let end = if number == 0 { answer[1] as usize } else { 0 };
+        assert!(out[end..].iter().all(|byte| *byte == 7), "written where nothing is to be written: {sheet:?}");
+        out.truncate(end);
+        if number == 0 { Ok(out) } else { Err(number) }
+    }
+
+    fn has_five_dimensions(&self) -> bool {
+        self.tensors.iter().any(|tensor| tensor.shape.len() > 4)
+    }
+
+    fn has_typed_empty_array(&self) -> bool {
+        self.entries.values().any(|said| matches!(said, Said::Array(kind, items) if *kind != 0 && items.is_empty()))
+    }
+}
+
+/// The refusal's number that an error of the original stands for.
+fn class(error: anyhow::Error) -> u64 {
+    const CLASSES: [(&str, u64); 10] = [
+        ("invalid GGUF version", 30),
+        ("non-zero multiple of 8", 32),
+        ("too large for u32", 33),
+        ("Q4_2/Q4_3", 35),
+        ("Q4_0_4_*", 35),
+        ("IQ4_NL_*", 35),
+        ("invalid GGML kind", 35),
+        ("element count overflow", 13),
+        ("tensor byte size overflow", 14),
+        ("tensor offset overflow", 36),
+    ];
+    let message = error.to_string();
+    CLASSES.iter().find(|(text, _)| message.contains(text)).expect("an error that has no class").1
+}
+
+/// How many sheets agreed, by refusal (0: written), and how many differ by intent.
+#[derive(Default)]
+pub struct Agreed {
+    by_number: BTreeMap<u64, u64>,
+    by_intent: BTreeMap<&'static str, u64>,
+}
+
+impl Agreed {
+    /// Gives one sheet to both. Panics where they differ otherwise than by intent.
+    pub fn on(&mut self, told: &Told, path: &str) {
+        let is_refused = told.data().is_none_or(|data| data > u128::from(u64::MAX));
+        if !is_refused && told.data().is_some_and(|data| data > MOST_DATA) {
+            return self.intended("data above 64 KiB, which the original would write: not compared");
+        }
+        let sheet = told.sheet(false);
+        let ours = told.ours(&sheet);
+        let theirs = told.theirs(path);
+        if told.has_five_dimensions() && (1..=3).contains(&told.version) {
+            assert_eq!(ours, Err(31), "{sheet:?}");
+            return self.intended("five dimensions: here refusal 31");
+        }
+        if ours == Err(34) {
+            assert!(matches!(theirs, Ok(_) | Err(13..=14 | 35..=36)), "{sheet:?}");
+            return self.intended("another alignment in the sheet: here refusal 34");
+        }
+        if told.has_typed_empty_array() && theirs.is_ok() {
+            assert!(ours.is_ok() && ours != theirs, "{sheet:?}");
+            assert_eq!(told.ours(&told.sheet(true)), theirs, "{sheet:?}");
+            return self.intended("an empty array of a type other than u8: the original writes item type 0, and nothing else differs");
+        }
+        assert_eq!(ours, theirs, "{sheet:?}");
+        *self.by_number.entry(ours.err().unwrap_or(0)).or_default() += 1;
+    }
+
+    fn intended(&mut self, what: &'static str) {
+        *self.by_intent.entry(what).or_default() += 1;
+    }
+
+    pub fn tell(&self) {
+        for (number, count) in &self.by_number {
+            println!("{:>9}  {}", count, if *number == 0 { "written, same bytes".into() } else { format!("refused {number}") });
+        }
+        println!("{:>9}  sheets compared, no difference", self.by_number.values().sum::<u64>());
+        for (what, count) in &self.by_intent {
+            println!("{count:>9}  {what}");
+        }
+    }
+}
