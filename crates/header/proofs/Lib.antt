@@ -2,6 +2,7 @@ pub mod Totals
 pub mod Starts
 pub mod Signs
 pub mod Whole
+pub mod Counted
 pub mod Stays
 pub mod Ceilings
 pub mod Refusals

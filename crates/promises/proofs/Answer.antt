@@ -13,10 +13,10 @@ use Rattle.header.specs.declared.Header.{Header}
 use Rattle.header.specs.Answers.{full, wholeOf}
 use Rattle.header.specs.Contents.{Told, toldIn, dialectOf}
 use Rattle.header.specs.Format.{Whole}
+use Rattle.header.proofs.Counted.{counted}
 use Rattle.writer.specs.declared.HeaderWritten.the-variants.{Written}
 use Rattle.promises.specs.Back.{answerFor, outputFor, contentsFor, Enough}
 use Rattle.promises.proofs.Back.{written-reads-back}
-use Rattle.promises.proofs.Sizes.{counts-read}
 
 -- a header as it is told, with the counts of its lists
 abbrev headOf : Told → Header
@@ -31,10 +31,10 @@ headOf t = record {
 }
 
 -- of what is read, it is the header that is answered
-head-told : (s : List ℕ) (w : Whole) → (w .head .entries ≡ length (w .entries)) × (w .head .tensors ≡ length (w .tensors)) → w .head ≡ headOf (toldIn s w)
-head-told s w counts =
-    let e : w .head .entries ≡ length (map (enteredOf (dialectOf w) s) (w .entries)) = counts .0 ∙ sym (length-map (enteredOf (dialectOf w) s) (w .entries)) in
-    let t : w .head .tensors ≡ length (map (weightOf s) (w .tensors)) = counts .1 ∙ sym (length-map (weightOf s) (w .tensors)) in
+head-told : (s : List ℕ) (w : Whole) → length (w .entries) ≡ w .head .entries → length (w .tensors) ≡ w .head .tensors → w .head ≡ headOf (toldIn s w)
+head-told s w entries tensors =
+    let e : w .head .entries ≡ length (map (enteredOf (dialectOf w) s) (w .entries)) = sym (length-map (enteredOf (dialectOf w) s) (w .entries) ∙ entries) in
+    let t : w .head .tensors ≡ length (map (weightOf s) (w .tensors)) = sym (length-map (weightOf s) (w .tensors) ∙ tensors) in
     rw (← e, ← t)
 
 told-head : (cap : ℕ) (es ts : List (List ℕ)) (s : List ℕ) (x : Answer Whole) → x ≡ wholeOf full cap es ts s → {t : Told} {q : ℕ} → seen (toldIn s) x ≡ accepted t q
@@ -43,7 +43,8 @@ unfolding seen
 told-head cap es ts s (accepted w o) e {t} {q} h =
     let is : toldIn s w ≡ t = cc in
     let at : o ≡ q = cc in
-    let head : w .head ≡ headOf t = head-told s w (counts-read full cap es ts s e) ∙ ap headOf is in
+    let c = counted full cap es ts s e in
+    let head : w .head ≡ headOf t = head-told s w (c .entries) (c .tensors) ∙ ap headOf is in
     rw (head, at)
 told-head cap es ts s (refused n p) e h = let z : _≡_ {A = ℕ} 0 1 = cc in absurd (omega arith)
 

@@ -1,6 +1,6 @@
--- What is read is told in full by what reads back: counts are those of the lists, and the size of a tensor is that of its shape and kind. Assumes nothing.
+-- What is read is told in full by what reads back: the size of a tensor is that of its shape and kind. Assumes nothing.
 use Prim.Native.Nat.{ℕ, _+_}
-use mathlib.Core.Path.{_≡_, refl, sym}
+use mathlib.Core.Path.{_≡_, refl}
 use mathlib.Core.List.{List, [], _∷_}
 use lib.Dec.{leb}
 use lib.ListN.{length}
@@ -13,7 +13,7 @@ use Rattle.kinds.specs.Shape.{greatest, productOf, productsFit, sizeFits, sizeO
 use Rattle.layout.specs.Padding.{padded}
 use Rattle.records.specs.declared.Dialect.{Dialect}
 use Rattle.records.specs.declared.Tensor.{Tensor}
-use Rattle.records.specs.Format.{lengths, entry, tensor, totalOf}
+use Rattle.records.specs.Format.{lengths, tensor, totalOf}
 use Rattle.header.specs.declared.Rooms.{Rooms}
 use Rattle.header.specs.Answers.{wholeOf}
 use Rattle.header.specs.Format.{latest, Whole, header}
@@ -35,22 +35,16 @@ module _ (s : List ℕ) where
       sure-check (productsFit (lengths x)) 13 p _ (λ e. sure-check (sizeFits (lengths x) (y .kind)) 14 p _ (λ f.
       sure-check (leb (total + productOf (lengths x)) greatest) 15 p _ (λ g. sure-done (refl, refl))))))))
 
-  -- a header: its counts are those of its lists, and its tensors are measured
-  sure-whole : (rooms : Rooms) (cap p : ℕ) → Sure s (header rooms cap) p (λ w q. (w .head .entries ≡ length (w .entries)) × (w .head .tensors ≡ length (w .tensors)) × All Measured (w .tensors))
+  -- a header: its tensors are measured
+  sure-whole : (rooms : Rooms) (cap p : ℕ) → Sure s (header rooms cap) p (λ w q. All Measured (w .tensors))
   unfolding header
   sure-whole rooms cap p =
       sure-then whatever (λ c q u.
-      sure-then (sure-each {S = Unit {0}} {P = λ z e. Unit {0}} (λ z. entry (c .dialect) cap) (λ z e. z) (λ z o. whatever) (c .entries) tt q) (λ es r g.
+      sure-then whatever (λ es r v.
       sure-then (sure-each {P = λ z. Measured} (tensor (c .dialect)) totalOf (λ z. sure-measured (c .dialect) z) (c .tensors) 0 r) (λ ts o h.
-      sure-here _ (sure-check (leb (padded (fold latest 32 es) o) greatest) 18 o _ (λ e. sure-done (sym (g .0), sym (h .0), each-alone Measured totalOf ts 0 (h .1)))))))
+      sure-here _ (sure-check (leb (padded (fold latest 32 es) o) greatest) 18 o _ (λ e. sure-done (each-alone Measured totalOf ts 0 (h .1)))))))
 
 -- whatever the bytes, the ceilings, the cap and the tables are
-module _ (limits : Limits) (cap : ℕ) (es ts : List (List ℕ)) (s : List ℕ) {w : Whole} {q : ℕ} (read : accepted w q ≡ wholeOf limits cap es ts s) where
-  whole : (w .head .entries ≡ length (w .entries)) × (w .head .tensors ≡ length (w .tensors)) × All Measured (w .tensors)
-  whole = sure-under limits (sure-whole s (record { entries = length es; tensors = length ts }) cap 0) .holds w q read
-
-  pub counts-read : (w .head .entries ≡ length (w .entries)) × (w .head .tensors ≡ length (w .tensors))
-  counts-read = (whole .0, whole .1)
-
-  pub sizes-read : All (λ (t : Tensor). (t .parameters ≡ productOf (lengths (t .shape))) × (t .size ≡ sizeOf (lengths (t .shape)) (t .kind))) (w .tensors)
-  sizes-read = whole .2
+pub sizes-read : (limits : Limits) (cap : ℕ) (es ts : List (List ℕ)) (s : List ℕ) {w : Whole} {q : ℕ} → accepted w q ≡ wholeOf limits cap es ts s
+    → All (λ (t : Tensor). (t .parameters ≡ productOf (lengths (t .shape))) × (t .size ≡ sizeOf (lengths (t .shape)) (t .kind))) (w .tensors)
+sizes-read limits cap es ts s {w} {q} read = sure-under limits (sure-whole s (record { entries = length es; tensors = length ts }) cap 0) .holds w q read

@@ -1,6 +1,5 @@
 pub mod Again
 pub mod Chosen
-pub mod Counted
 pub mod Facts
 pub mod Filled
 pub mod Listed

@@ -14,9 +14,9 @@ use Rattle.header.specs.Answers.{asHeader}
 use Rattle.header.specs.declared.Header.{Header}
 use Rattle.header.specs.declared.HeaderRead.{HeaderRead}
 use Rattle.header.specs.declared.HeaderRead.the-variants.{Found as FoundHeader, Refused as NoHeader}
+use Rattle.header.proofs.Counted.{counted}
 use Rattle.tensor_records.specs.declared.TensorRecord.{TensorRecord}
 use Rattle.tensor_records.specs.Records.{filledFrom, tensorsIn, tensorRecord, listingOf}
-use Rattle.tensor_records.proofs.Counted.{Counted, counted}
 use Rattle.tensor_records.proofs.Filled.{none-filled}
 
 -- the rows of some tensors, taken off a table that begins with them
@@ -30,14 +30,14 @@ from-rows ys [] h = none-filled ys
 from-rows [] (t ∷ l) h = absurd (omega (arith, h))
 from-rows (y ∷ ys) (t ∷ l) h = ap (λ (k : List TensorRecord). tensorRecord t ∷ k) (from-rows ys l (omega (arith, h)))
 
-by-answer : (ys : List TensorRecord) (rs : List (List ℕ)) (r : HeaderRead) (whole : Answer Whole) → ((w : Whole) (q : ℕ) → accepted w q ≡ whole → Counted (length ys) w)
+by-answer : (ys : List TensorRecord) (rs : List (List ℕ)) (r : HeaderRead) (whole : Answer Whole) → ((w : Whole) (q : ℕ) → accepted w q ≡ whole → (length (w .tensors) ≡ w .head .tensors) × (w .head .tensors ≤ length ys))
     → asHeader r ≡ seen (λ w. w .head) whole → filledFrom ys (take (tensorsIn r) (filled tensorRow rs (seen (λ w. w .tensors) whole))) ≡ filled tensorRecord ys (seen (λ w. w .tensors) whole)
 unfolding seen
 by-answer ys rs (FoundHeader h) (accepted w q) many e =
     let c = many w q refl in
     let same : h ≡ w .head = cc in
-    let n : h .tensors ≡ length (w .tensors) = ap (λ (k : Header). k .tensors) same ∙ sym (c .all) in
-    let fits : length (w .tensors) ≤ length ys = omega (arith, c .all, c .fit) in
+    let n : h .tensors ≡ length (w .tensors) = ap (λ (k : Header). k .tensors) same ∙ sym (c .0) in
+    let fits : length (w .tensors) ≤ length ys = omega (arith, c .0, c .1) in
     ap (λ (m : ℕ). filledFrom ys (take m (map tensorRow (w .tensors) ++ drop (length (w .tensors)) rs))) n
     ∙ ap (filledFrom ys) (taken (w .tensors) (drop (length (w .tensors)) rs)) ∙ from-rows ys (w .tensors) fits
 by-answer ys rs (FoundHeader h) (refused n p) many e = let z : _≡_ {A = ℕ} 0 1 = cc in absurd (omega arith)
@@ -50,4 +50,4 @@ listed limits cap es rs ys s r =
     by-answer ys rs r (listingOf limits cap es rs ys s) (λ w q e.
     let c = counted limits cap es (take (length ys) rs) s e in
     let short = length-take (length ys) rs in
-    record { all = c .all; fit = omega (arith, c .fit, short) })
+    (c .tensors, omega (arith, c .tensorRoom, short)))

@@ -12,7 +12,7 @@ use Rattle.records.specs.Rows.{entryRow, tensorRow}
 use Rattle.header.specs.Format.{header, Whole}
 use Rattle.header.specs.Answers.{asHeader, wholeOf}
 use Rattle.header.specs.declared.HeaderRead.{HeaderRead}
-use Rattle.tensor_records.proofs.Counted.{counted}
+use Rattle.header.proofs.Counted.{counted}
 
 append-assoc : {B : Type 0} (a b c : List B) → (a ++ b) ++ c ≡ a ++ (b ++ c)
 append-assoc [] b c = refl
@@ -42,7 +42,7 @@ module _ (limits : Limits) (cap : ℕ) (es rs : List (List ℕ)) (s : List ℕ) 
   no-more w q f =
       let c = counted limits cap es (take room rs) s f in
       let g = length-take room rs in
-      omega (arith, c .all, c .fit, g, e)
+      omega (arith, c .tensors, c .tensorRoom, g, e)
 
   pub part-read : (r : HeaderRead) {E R : List (List ℕ)} → asHeader r ≡ seen (λ w. w .head) (wholeOf limits cap es (take d rs) s) → E ≡ filled entryRow es (seen (λ w. w .entries) (wholeOf limits cap es (take d rs) s))
       → R ≡ filled tensorRow (take d rs) (seen (λ w. w .tensors) (wholeOf limits cap es (take d rs) s))

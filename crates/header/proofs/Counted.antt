@@ -1,0 +1,38 @@
+-- A header that was read has as many records as its counts say, and there were rows for them. Assumes nothing.
+use Prim.Native.Nat.{ℕ, _≤_}
+use mathlib.Core.Path.{_≡_}
+use mathlib.Core.List.{List}
+use lib.Dec.{leb}
+use lib.ListN.{length}
+use Rattle.fields.specs.Back.{Sure}
+use Rattle.fields.specs.Each.{fold}
+use Rattle.fields.specs.Reading.{accepted}
+use Rattle.fields.specs.declared.Limits.{Limits}
+use Rattle.fields.proofs.Sure.{sure-then, sure-done, sure-here, sure-check, sure-each, sure-under, whatever}
+use Rattle.kinds.specs.Shape.{greatest}
+use Rattle.layout.specs.Padding.{padded}
+use Rattle.header.specs.Answers.{wholeOf}
+use Rattle.header.specs.Format.{latest, Whole, header}
+use Rattle.header.specs.declared.Rooms.{Rooms}
+use Rattle.header.proofs.Whole.{sure-start}
+
+-- as many records as are counted, and rows for them
+pub record Counted (rooms : Rooms) (w : Whole) : Type 0 where
+  pub entries : length (w .entries) ≡ w .head .entries
+  pub tensors : length (w .tensors) ≡ w .head .tensors
+  pub entryRoom : w .head .entries ≤ rooms .entries
+  pub tensorRoom : w .head .tensors ≤ rooms .tensors
+
+sure-counted : (rooms : Rooms) (cap : ℕ) (s : List ℕ) (p : ℕ) → Sure s (header rooms cap) p (λ w q. Counted rooms w)
+unfolding header
+sure-counted rooms cap s p =
+    sure-then (sure-start rooms s p) (λ c q room.
+    sure-then (sure-each {P = λ z a. Unit {0}} _ _ (λ z r. whatever) (c .entries) tt q) (λ es r n.
+    sure-then (sure-each {P = λ z a. Unit {0}} _ _ (λ z u. whatever) (c .tensors) 0 r) (λ ts e m.
+    sure-here _ (sure-check (leb (padded (fold latest 32 es) e) greatest) 18 e _ (λ fits.
+    sure-done (record { entries = n .0; tensors = m .0; entryRoom = room .0; tensorRoom = room .1 }))))))
+
+-- with any ceilings, cap and tables
+pub counted : (limits : Limits) (cap : ℕ) (es ts : List (List ℕ)) (s : List ℕ) {w : Whole} {q : ℕ} → accepted w q ≡ wholeOf limits cap es ts s
+    → Counted (record { entries = length es; tensors = length ts }) w
+counted limits cap es ts s {w} {q} read = sure-under limits (sure-counted (record { entries = length es; tensors = length ts }) cap s 0) .holds w q read
