@@ -9,3 +9,4 @@ pub mod Chain
 pub mod Back
 pub mod Sure
 pub mod Order
+pub mod Before

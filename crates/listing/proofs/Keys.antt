@@ -9,10 +9,10 @@ use lib.ListN.{length, drop}
 use borrow.Author.Tests.{ltb-true, ltb-false}
 use Rattle.fields.specs.Choice.{if_then_else_}
 use Rattle.fields.specs.Order.{before}
+use Rattle.fields.proofs.Before.{clash, not-itself, not-both, not-through}
 use Rattle.listing.specs.Order.{keyAt, toCome, better, improved, bestFrom, nextKey}
 use Rattle.listing.specs.declared.NextKey.{NextKey}
 use Rattle.listing.specs.declared.NextKey.the-variants.{At, Done}
-use Rattle.listing.proofs.Before.{clash, not-itself, not-both, not-through}
 use Rattle.listing.proofs.Next.{best-turn, best-end}
 
 -- below the next number: the last one, or one before it

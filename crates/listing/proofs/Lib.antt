@@ -4,7 +4,6 @@ pub mod Lengths
 pub mod Next
 pub mod Writing
 pub mod Counted
-pub mod Before
 pub mod Keys
 pub mod Ordered
 pub mod Examples

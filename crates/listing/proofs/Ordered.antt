@@ -11,10 +11,10 @@ use lib.ListN.{length, getD}
 use Rattle.fields.specs.Back.{All}
 use Rattle.fields.specs.Choice.{if_then_else_}
 use Rattle.fields.specs.Order.{before}
+use Rattle.fields.proofs.Before.{clash, not-itself, neither, through}
 use Rattle.listing.specs.Order.{nameIn, keyAt, toCome, nextKey, rowThen, orderedAfter, ordered}
 use Rattle.listing.specs.declared.NextKey.{NextKey}
 use Rattle.listing.specs.declared.NextKey.the-variants.{At, Done}
-use Rattle.listing.proofs.Before.{clash, not-itself, neither, through}
 use Rattle.listing.proofs.Keys.{next-best, next-after, next-latest, next-none}
 
 -- how many rows pass a test

@@ -1,15 +1,13 @@
 -- The keys of a header that was written ascend strictly, the added one in its place. Assumes nothing.
-use Prim.Native.Nat.{ℕ, _≤_}
+use Prim.Native.Nat.{ℕ}
 use mathlib.Core.Path.{_≡_, refl, sym, ap, subst}
 use mathlib.Core.Bool.{Bool, true, false}
 use mathlib.Core.List.{List, [], _∷_, map}
-use native.Mathlib.Omega.{arith}
-use borrow.Author.Tests.{ltb-false, lt-ltb, le-ltb, eqb-true, eqb-false, eq-eqb}
-use lib.Dec.{ltb, eqb}
 use lib.ListN.{length}
 use Rattle.fields.specs.Back.{All}
 use Rattle.fields.specs.Choice.{if_then_else_}
 use Rattle.fields.specs.Order.{before}
+use Rattle.fields.proofs.Before.{clash, neither}
 use Rattle.fields.proofs.Sure.{all-map}
 use Rattle.records.specs.declared.Dialect.{Dialect}
 use Rattle.records.specs.Format.{isWord, alignmentKey}
@@ -23,36 +21,17 @@ use Rattle.promises.specs.Back.{answerFor, contentsFor}
 use Rattle.promises.proofs.Said.{none-said, was-absent}
 use Rattle.promises.proofs.Back.{wrote-plan}
 
--- of two texts that differ, one comes before the other
-comes-after : (x y : List ℕ) → before x y ≡ false → (y ≡ x → ⊥) → before y x ≡ true
-comes-after [] [] e differ = absurd (differ refl)
-comes-after [] (b ∷ y) e differ = let z : _≡_ {A = ℕ} 0 1 = cc in absurd (omega arith)
-comes-after (a ∷ x) [] e differ = refl
-comes-after (a ∷ x) (b ∷ y) e differ = by (ltb a b) (eqb a b) refl refl e (λ f g. comes-after x y f g)
-  where
-    by : (l q : Bool) → ltb a b ≡ l → eqb a b ≡ q → (if l then true else if q then before x y else false) ≡ false → (before x y ≡ false → (y ≡ x → ⊥) → before y x ≡ true)
-        → before (b ∷ y) (a ∷ x) ≡ true
-    by true q i j f next = let z : _≡_ {A = ℕ} 0 1 = cc in absurd (omega arith)
-    by false true i j f next =
-        let same : a ≡ b = eqb-true a b j in
-        let other : y ≡ x → ⊥ = λ g. differ (let h : _≡_ {A = List ℕ} (b ∷ y) (a ∷ x) = cc in h) in
-        rw (le-ltb b a (omega arith), eq-eqb b a (sym same), next f other)
-    by false false i j f next =
-        let low : b ≤ a = ltb-false a b i in
-        let apart : a ≡ b → ⊥ = eqb-false a b j in
-        rw (lt-ltb b a (omega arith))
-
 -- a key that is not the alignment's
 abbrev Other : Entered → Type 0
 Other e = isWord alignmentKey (e .key) ≡ false
 
 -- and does not come after that one comes before it
 other-before : (key : List ℕ) → isWord alignmentKey key ≡ false → before alignmentKey key ≡ false → before key alignmentKey ≡ true
-other-before key other e =
-    comes-after alignmentKey key e (λ same.
-    let word : isWord alignmentKey key ≡ true = subst (λ l. isWord alignmentKey l ≡ true) (sym same) refl in
-    let z : _≡_ {A = ℕ} 0 1 = cc in
-    omega arith)
+other-before key other e = by (before key alignmentKey) refl
+  where
+    by : (b : Bool) → before key alignmentKey ≡ b → before key alignmentKey ≡ true
+    by true f = f
+    by false f = clash (subst (λ l. isWord alignmentKey l ≡ true) (neither alignmentKey key e f) refl) other
 
 abbrev keyIn : Entered → List ℕ
 keyIn e = e .key
