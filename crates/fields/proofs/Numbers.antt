@@ -9,12 +9,11 @@ use native.Mathlib.Nat.{mul-suc, mul-le-mul-right, add-suc, mul-assoc, pow-succ'
 use lib.ListN.{length, take, drop, getD, length-drop, length-reverse}
 use lib.Seq.{drop-cons, drop-drop, take-add, take-take, length-take-le}
 use lib.Dec.{leb}
-use borrow.Author.Tests.{leb-true, le-leb, lt-leb}
+use borrow.Author.Tests.{le-leb, lt-leb}
 use Rattle.fields.specs.Choice.{if_then_else_}
 use Rattle.fields.specs.Reading.{accepted, refused, run}
 use Rattle.fields.specs.Value.{leValue, value, halves, number}
 use Rattle.fields.proofs.Pieces.{small}
-use Rattle.fields.specs.declared.Width.the-variants.{One, Two, Four, Eight}
 
 -- a number that is wholly there, and one that is not
 pub number-there : (w : ℕ) (big : Bool) (s : List ℕ) (at : ℕ) → at + w ≤ length s → run (number w big) s at ≡ accepted (value big (take w (drop at s))) (at + w)
@@ -24,18 +23,6 @@ number-there w big s at h = rw (le-leb (at + w) (length s) h, take-take w w (dro
 pub number-missing : (w : ℕ) (big : Bool) (s : List ℕ) (at : ℕ) → length s < at + w → run (number w big) s at ≡ refused 1 at
 unfolding run number
 number-missing w big s at h = rw (lt-leb (at + w) (length s) h)
-
-within-cases : (s : List ℕ) (at w v v′ q : ℕ) (b : Bool) → leb (at + w) (length s) ≡ b → accepted v q ≡ (if b then accepted v′ (at + w) else refused 1 at) → q ≤ length s
-within-cases s at w v v′ q true h e =
-    let i : at + w ≤ length s = leb-true _ _ h in
-    let k : q ≡ at + w = cc in
-    omega arith
-within-cases s at w v v′ q false h e = let z : _≡_ {A = ℕ} 0 1 = cc in omega arith
-
--- the place after a number is within the bytes
-pub number-within : (w : ℕ) (big : Bool) (s : List ℕ) (at : ℕ) {v q : ℕ} → accepted v q ≡ run (number w big) s at → q ≤ length s
-unfolding run number
-number-within w big s at {v} {q} e = within-cases s at w v _ q (leb (at + w) (length s)) refl e
 
 refused-cases : (s : List ℕ) (at w v n p : ℕ) (b : Bool) → refused n p ≡ (if b then accepted v (at + w) else refused 1 at) → (if b then accepted v (at + w) else refused 1 at) ≡ refused 1 at
 refused-cases s at w v n p true e = let z : _≡_ {A = ℕ} 0 1 = cc in absurd (omega arith)

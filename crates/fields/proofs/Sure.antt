@@ -88,6 +88,14 @@ unfolding run
 sure-field {s = s} {n} {w} {p} {g} {Q} f =
     record { holds = λ b q e. field-cases s w p (g (take n (take w (drop p s)))) b q Q (leb (p + w) (length s)) refl f e }
 
+-- a number ends right after its bytes, which are there
+pub number-told : (s : List ℕ) (w : ℕ) (big : Bool) (p : ℕ) → Sure s (number w big) p (λ v q. (q ≡ p + w) × (q ≤ length s))
+unfolding number
+number-told s w big p = sure-field (λ there. (refl, there))
+
+pub number-within : (w : ℕ) (big : Bool) (s : List ℕ) (at : ℕ) {v q : ℕ} → accepted v q ≡ run (number w big) s at → q ≤ length s
+number-within w big s at {v} {q} e = number-told s w big at .holds v q e .1
+
 -- a number is below its width's power
 pub sure-number : (s : List ℕ) → All Byte s → (w : ℕ) (big : Bool) (p : ℕ) → Sure s (number w big) p (λ v q. v < 256 ^ w)
 unfolding number

@@ -1,13 +1,12 @@
 -- How long values of a sheet are as values of a header, from the places between which they stand: their items are not looked at. Assumes nothing.
 use Prim.Native.Nat.{ℕ, zero, suc, _+_, _-_, _*_, _≤_}
 use mathlib.Core.Path.{_≡_, refl, sym, ap, subst, _∙_}
-use mathlib.Core.Bool.{Bool, true, false}
+use mathlib.Core.Bool.{true, false}
 use mathlib.Core.List.{List}
 use native.Mathlib.Omega.{arith}
 use native.Mathlib.Nat.{suc-mul}
 use lib.Dec.{leb, ltb, eqb}
-use lib.ListN.{length, drop, length-drop}
-use lib.Seq.{length-take-le}
+use lib.ListN.{length}
 use borrow.Author.Tests.{eqb-true, eq-eqb, ne-eqb}
 use Rattle.fields.specs.Back.{Sure}
 use Rattle.fields.specs.Bytes.{rows}
@@ -16,17 +15,19 @@ use Rattle.fields.specs.Each.{each, times}
 use Rattle.fields.specs.Reading.{Answer, accepted, refused, run, isAccepted}
 use Rattle.fields.specs.Value.{widthOf, number}
 use Rattle.fields.specs.declared.Width.{Width}
-use Rattle.fields.proofs.Sure.{sure-then, sure-done, sure-refuse, sure-here, sure-check, sure-if, sure-field, sure-run, whatever}
+use Rattle.fields.proofs.Before.{clash}
+use Rattle.fields.proofs.Sure.{sure-then, sure-done, sure-refuse, sure-here, sure-check, sure-if, sure-run, whatever}
 use Rattle.records.specs.declared.Dialect.{Dialect}
 use Rattle.records.specs.Format.{sizeWidth, scalarWidth, depth}
 use Rattle.records.specs.Contents.{Said, Content, one, word, list, saidBytes}
+use Rattle.records.proofs.Texts.{bytes-length}
 use Rattle.header.specs.Contents.{alignmentSaid}
-use Rattle.sheet.specs.Format.{Text, text, scalar, itemType, array, item, value}
+use Rattle.sheet.specs.Format.{Text, scalar, itemType, array, item, value}
 use Rattle.sheet.specs.Sheet.{stepOf}
 use Rattle.sheet.specs.declared.Stepped.the-variants.{To}
 use Rattle.sheet.proofs.Items.{has-width, has-none, value-array}
 use Rattle.sheet.proofs.Steps.{step-yes}
-use Rattle.sheet.proofs.Parts.{TextTold, sure-textOf, sure-text, onward}
+use Rattle.sheet.proofs.Parts.{TextTold, scalar-told, sure-textOf, sure-text, onward}
 use Rattle.plan.specs.Header.{heard}
 use Rattle.plan.proofs.Sizes.{size-cases, one-length, word-length, list-length, rows-more, rows-none}
 
@@ -36,9 +37,6 @@ never-both e f = let z : _≡_ {A = ℕ} 0 1 = cc in omega arith
 
 pub same-answer : {A : Type 0} {r : Answer A} {a b : A} {q o : ℕ} → accepted a q ≡ r → accepted b o ≡ r → (a ≡ b) × (q ≡ o)
 same-answer e f = (cc, cc)
-
-not-both : {b : Bool} → b ≡ true → b ≡ false → ⊥
-not-both e f = let z : _≡_ {A = ℕ} 0 1 = cc in omega arith
 
 -- how much wider a size is in the header, for a text of an array
 abbrev pub wider : Dialect → ℕ → ℕ
@@ -77,18 +75,10 @@ much-wider : (k : Dialect) (t : ℕ) → eqb t 8 ≡ true → 4 + wider k t ≡ 
 much-wider k t h = rw h (omega (arith, size-cases k .0))
 
 module _ (s : List ℕ) where
-  number-ends : (w : ℕ) (big : Bool) (p : ℕ) → Sure s (number w big) p (λ v q. q ≡ p + w)
-  unfolding number
-  number-ends w big p = sure-field (λ there. refl)
-
-  scalar-ends : (t p : ℕ) → Sure s (scalar t) p (λ v q. q ≡ p + scalarWidth t)
-  unfolding scalar
-  scalar-ends t p = sure-then (number-ends (scalarWidth t) true p) (λ v q h. sure-check (if eqb t 7 then leb v 1 else true) 31 0 _ (λ e. sure-done h))
-
   -- a text has as many bytes as its place tells
   text-bytes : {p q : ℕ} {a : Text} → TextTold s p a q → p + length (a .bytes) ≡ q
   text-bytes {p} {q} {a} h =
-      let n = length-take-le (a .span .len) (drop (a .span .place) s) (rw (length-drop (a .span .place) s) (omega (arith, h .starts, h .ends, h .there))) in
+      let n = bytes-length s (a .span) (omega (arith, h .starts, h .ends, h .there)) in
       omega (arith, h .ends, n, ap length (h .bytes))
 
   module _ (k : Dialect) where
@@ -103,7 +93,7 @@ module _ (s : List ℕ) where
     unfolding item array
     item-measure t p =
         sure-if (ltb 0 (scalarWidth t)) _ _
-        (λ i. sure-then (scalar-ends t p) (λ v q h. sure-done (scalar-item t v p i h)))
+        (λ i. sure-then (scalar-told s t p) (λ v q h. sure-done (scalar-item t v p i (h .0))))
         (λ i. sure-if (eqb t 8) _ _ (λ j. sure-then (sure-text s p) (λ a q h. sure-done (text-item t p j h))) (λ j. sure-refuse))
 
     -- so many items
@@ -121,7 +111,7 @@ module _ (s : List ℕ) where
     unfolding value
     plain-measure e t p =
         sure-if (ltb 0 (scalarWidth t)) _ _
-        (λ i. sure-then (scalar-ends t p) (λ v q h. sure-done (λ other. rw (ne-eqb t 8 (not-text t i)) (omega (arith, one-length k depth t v, h)))))
+        (λ i. sure-then (scalar-told s t p) (λ v q h. sure-done (λ other. rw (ne-eqb t 8 (not-text t i)) (omega (arith, one-length k depth t v, h .0)))))
         (λ i. sure-if (eqb t 8) _ _
         (λ j. sure-here _ (sure-then (sure-textOf s (e - p) p) (λ a q h. sure-done (λ other. rw j (omega (arith, word-length k depth (a .bytes), text-bytes h))))))
         (λ j. sure-if (eqb t 9) _ _ (λ i. record { holds = λ c q h other. absurd (other (eqb-true t 9 i)) }) (λ j. sure-refuse)))
@@ -171,7 +161,7 @@ module _ (s : List ℕ) where
   pub other-value : (e t p : ℕ) → Sure s (value e t) p (λ c q. ltb 0 (scalarWidth t) ≡ false → alignmentSaid c ≡ 32)
   unfolding value array
   other-value e t p =
-      sure-if (ltb 0 (scalarWidth t)) _ _ (λ i. sure-then whatever (λ v q h. sure-done (λ j. absurd (not-both i j))))
+      sure-if (ltb 0 (scalarWidth t)) _ _ (λ i. sure-then whatever (λ v q h. sure-done (λ j. clash i j)))
       (λ i. sure-if (eqb t 8) _ _ (λ j. sure-here _ (sure-then whatever (λ a q h. sure-done (λ j. refl))))
       (λ j. sure-if (eqb t 9) _ _ (λ i. sure-then whatever (λ t q h. sure-check (itemType 0 t) 31 0 _ (λ i. sure-then whatever (λ n q h. sure-then whatever (λ l q h. sure-done (λ j. refl)))))) (λ j. sure-refuse)))
 
@@ -183,7 +173,7 @@ module _ (s : List ℕ) where
   unfolding value
   scalar-value e t p =
       sure-if (ltb 0 (scalarWidth t)) _ _ (λ i. sure-then (scalar-read t p) (λ v q h. sure-done (λ j. (v, h .0, h .1, refl))))
-      (λ i. record { holds = λ c q r j. absurd (not-both j i) })
+      (λ i. record { holds = λ c q r j. clash j i })
 
 -- what is heard of a value that was read
 pub heard-one : {I : Type 0} {r : Answer (Said I)} {c : Said I} {q : ℕ} → accepted c q ≡ r → heard r ≡ c

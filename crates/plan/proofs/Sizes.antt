@@ -1,5 +1,5 @@
 -- How many bytes the parts of a header have. Assumes nothing.
-use Prim.Native.Nat.{ℕ, zero, suc, _+_, _*_, _≤_}
+use Prim.Native.Nat.{ℕ, suc, _+_, _*_, _≤_}
 use mathlib.Core.Path.{_≡_, refl, ap, _∙_}
 use mathlib.Core.Bool.{Bool, true, false}
 use mathlib.Core.List.{List, [], _∷_, _++_}
@@ -15,6 +15,7 @@ use Rattle.records.specs.Format.{sizeWidth, scalarWidth, depth}
 use Rattle.records.specs.Contents.{Content, one, word, list, Entered, Weight, sizeBytes, textBytes, typeBytes, typeOf, saidBytes, entryBytes, lengthBytes, shapeBytes, storedBytes, tensorBytes}
 use Rattle.header.specs.declared.Start.{Start}
 use Rattle.header.specs.Contents.{Sheet, startBytes, headerBytes}
+use Rattle.sheet.proofs.Parts.{eights}
 
 -- a size has 4 bytes or 8
 pub size-cases : (k : Dialect) → (4 ≤ sizeWidth k) × (sizeWidth k ≤ 8)
@@ -23,6 +24,10 @@ size-cases k = by (eqb (k .version) 1)
     by : (b : Bool) → (4 ≤ (if b then 4 else 8)) × ((if b then 4 else 8) ≤ 8)
     by true = (omega arith, omega arith)
     by false = (omega arith, omega arith)
+
+-- the length at the place i of n takes eight bytes, and beyond those nothing is written
+abbrev eight : ℕ → ℕ → ℕ
+eight n i = if ltb i n then 8 else 0
 
 module _ (k : Dialect) where
   pub size-length : (n : ℕ) → length (sizeBytes k n) ≡ sizeWidth k
@@ -58,7 +63,7 @@ module _ (k : Dialect) where
       ∙ ap (λ n. n + length (saidBytes (suc depth) k (e .said))) (length-append (textBytes k (e .key)) (typeBytes k (typeOf (e .said))) ∙ rw (text-length (e .key), type-length (typeOf (e .said))) (omega arith))
 
   -- a length of a shape
-  one-more : (n i v : ℕ) → length (lengthBytes k n i v) ≡ (if ltb i n then 8 else 0)
+  one-more : (n i v : ℕ) → length (lengthBytes k n i v) ≡ eight n i
   unfolding lengthBytes
   one-more n i v = by (ltb i n)
     where
@@ -66,28 +71,25 @@ module _ (k : Dialect) where
       by true = length-bytesOf (k .big) 8 v
       by false = refl
 
-  eights : (n : ℕ) → n ≤ 4 → 4 + (if ltb 0 n then 8 else 0) + (if ltb 1 n then 8 else 0) + (if ltb 2 n then 8 else 0) + (if ltb 3 n then 8 else 0) ≡ 4 + 8 * n
-  eights zero h = refl
-  eights (suc zero) h = refl
-  eights (suc (suc zero)) h = refl
-  eights (suc (suc (suc zero))) h = refl
-  eights (suc (suc (suc (suc zero)))) h = refl
-  eights (suc (suc (suc (suc (suc n))))) h = absurd (omega arith)
-
-  pub shape-length : (x : Shape) → x .dimensions ≤ 4 → length (shapeBytes k x) ≡ 4 + 8 * x .dimensions
+  pub shape-length : (x : Shape) → length (shapeBytes k x) ≡ 4 + eight (x .dimensions) 0 + eight (x .dimensions) 1 + eight (x .dimensions) 2 + eight (x .dimensions) 3
   unfolding shapeBytes
-  shape-length x few =
-      rw (length-append, length-append, length-append, length-append, type-length, one-more, one-more, one-more, one-more) (eights (x .dimensions) few)
+  shape-length x =
+      rw (length-append, length-append, length-append, length-append, type-length, one-more, one-more, one-more, one-more)
 
   pub stored-length : (t o : ℕ) → length (storedBytes k t o) ≡ 12
   unfolding storedBytes
   stored-length t o = length-append (typeBytes k t) (bytesOf (k .big) 8 o) ∙ rw (type-length t, length-bytesOf (k .big) 8 o)
 
-  pub tensor-length : (t : Weight) → t .shape .dimensions ≤ 4 → length (tensorBytes k t) ≡ sizeWidth k + 16 + 8 * t .shape .dimensions + length (t .name)
+  pub tensor-length : (t : Weight) → let n = t .shape .dimensions in
+      length (tensorBytes k t) ≡ sizeWidth k + length (t .name) + (4 + eight n 0 + eight n 1 + eight n 2 + eight n 3) + 12
   unfolding tensorBytes
-  tensor-length t few =
+  tensor-length t =
       length-append (textBytes k (t .name) ++ shapeBytes k (t .shape)) (storedBytes k (t .kind) (t .offset))
-      ∙ rw (length-append (textBytes k (t .name)) (shapeBytes k (t .shape)), text-length (t .name), shape-length (t .shape) few, stored-length (t .kind) (t .offset)) (omega arith)
+      ∙ rw (length-append (textBytes k (t .name)) (shapeBytes k (t .shape)), text-length (t .name), shape-length (t .shape), stored-length (t .kind) (t .offset))
+
+  -- eight bytes for each of up to four
+  pub tensor-eights : (t : Weight) → t .shape .dimensions ≤ 4 → length (tensorBytes k t) ≡ sizeWidth k + 16 + 8 * t .shape .dimensions + length (t .name)
+  tensor-eights t few = tensor-length t ∙ omega (arith, eights (t .shape .dimensions) few)
 
 -- what stands before the first record
 pub start-length : (c : Start) → length (startBytes c) ≡ 8 + sizeWidth (c .dialect) + sizeWidth (c .dialect)

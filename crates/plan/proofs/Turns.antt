@@ -7,8 +7,7 @@ use mathlib.Core.List.{List, [], _∷_, _++_, map}
 use native.Mathlib.Omega.{arith}
 use native.Mathlib.Numerals.{add-one}
 use lib.Dec.{leb}
-use lib.ListN.{length, drop, length-append, length-drop}
-use lib.Seq.{length-take-le}
+use lib.ListN.{length, length-append}
 use borrow.Author.Tests.{leb-true}
 use Rattle.fields.specs.Back.{got, Sure}
 use Rattle.fields.specs.Bytes.{rows}
@@ -22,9 +21,9 @@ use Rattle.layout.specs.declared.Placed.the-variants.{At, Refused}
 use Rattle.layout.specs.Layout.{Layout, laidOut, refusedAt, ahead, nothingLaid, placeOf, layoutFrom}
 use Rattle.layout.proofs.Places.{layout-end, layout-stops, layout-goes-on}
 use Rattle.records.specs.declared.Dialect.{Dialect}
-use Rattle.records.specs.declared.Span.{Span}
 use Rattle.records.specs.Format.{isWord, alignmentKey, sizeWidth, depth, lengths, lengthsOf}
-use Rattle.records.specs.Contents.{saidBytes, entryBytes, textBytes, shapeBytes, storedBytes, tensorBytes, bytesAt, insideOf}
+use Rattle.records.specs.Contents.{saidBytes, entryBytes, textBytes, shapeBytes, storedBytes, tensorBytes, insideOf}
+use Rattle.records.proofs.Texts.{bytes-length}
 use Rattle.header.specs.Contents.{alignmentSaid}
 use Rattle.sheet.specs.declared.EntryParts.{EntryParts}
 use Rattle.sheet.specs.declared.TensorParts.{TensorParts}
@@ -42,7 +41,7 @@ use Rattle.plan.specs.declared.LaidOut.the-variants.{Fits, Refused as No
 use Rattle.plan.specs.Header.{saidWith, enteredIn, pieceOf, weightAt, laidWith, weightsFrom, heard}
 use Rattle.plan.specs.Plan.{takenFrom, laidOf}
 use Rattle.plan.proofs.Rooms.{taken-none, taken-twice}
-use Rattle.plan.proofs.Sizes.{entry-length, stored-length, tensor-length, rows-none, rows-more}
+use Rattle.plan.proofs.Sizes.{entry-length, stored-length, tensor-eights, rows-none, rows-more}
 use Rattle.plan.proofs.Measures.{heard-one}
 
 got-cons : {A : Type 0} (a : A) (r : Answer (List A)) → isAccepted (andThen r (λ l p. accepted (a ∷ l) p)) ≡ true → got (andThen r (λ l p. accepted (a ∷ l) p)) ≡ a ∷ got r
@@ -60,10 +59,6 @@ module _ {A : Type 0} (m : Reading A) (s : List ℕ) (at n i : ℕ) where
   got-more below {a} {q} e all =
       let r = each-more {S = Unit {0}} (λ z. m) (λ z a. z) s at n i tt below e in
       ap got r ∙ got-cons a (run (times (n - (i + 1)) m) s q) (rw r at all)
-
--- the bytes of a text that is inside
-inside-length : (s : List ℕ) (a : Span) → a .place + a .len ≤ length s → length (bytesAt s a) ≡ a .len
-inside-length s a there = length-take-le (a .len) (drop (a .place) s) (rw (length-drop (a .place) s) (omega arith))
 
 -- the bytes of the entries from a place on
 abbrev pub entriesLength : Dialect → ℕ → List ℕ → ℕ → ℕ
@@ -102,7 +97,7 @@ module _ (s : List ℕ) (at n i : ℕ) (below : i < n) (all : isAccepted (run (t
     key-length : length (line .entered .key) ≡ x .key .len
     key-length =
         let t = entry-told s at read in
-        sym (ap length (t .key)) ∙ inside-length s (line .parts .key) (t .there) ∙ ap (λ (y : EntryParts). y .key .len) (sym parts)
+        sym (ap length (t .key)) ∙ bytes-length s (line .parts .key) (t .there) ∙ ap (λ (y : EntryParts). y .key .len) (sym parts)
 
     pub entry-taken : (k : Dialect) (r : Room) → takenFrom r (entriesLength k (n - i) s at)
         ≡ takenFrom (takenFrom r (sizeWidth k + 4 + x .key .len + length (saidBytes (suc depth) k (heard (run (value q (x .form)) s (x .value)))))) (entriesLength k (n - (i + 1)) s q)
@@ -178,11 +173,11 @@ module _ (s : List ℕ) (at n i : ℕ) (below : i < n) (all : isAccepted (run (t
     name-length : length (one .name) ≡ x .name .len
     name-length =
         let t = tensor-told s at one-read in
-        sym (ap length (t .name)) ∙ inside-length s (one .parts .name) (t .there) ∙ ap (λ (y : TensorParts). y .name .len) (sym one-parts)
+        sym (ap length (t .name)) ∙ bytes-length s (one .parts .name) (t .there) ∙ ap (λ (y : TensorParts). y .name .len) (sym one-parts)
 
     one-length : (k : Dialect) → length (tensorBytes k (weightAt one 0)) ≡ sizeWidth k + 16 + 8 * x .shape .dimensions + x .name .len
     one-length k =
-        tensor-length k (weightAt one 0) (few-tensor s at .holds one q one-read)
+        tensor-eights k (weightAt one 0) (few-tensor s at .holds one q one-read)
         ∙ ap (λ y. sizeWidth k + 16 + 8 * one .parts .shape .dimensions + y) name-length
         ∙ ap (λ (y : TensorParts). sizeWidth k + 16 + 8 * y .shape .dimensions + x .name .len) (sym one-parts)
 

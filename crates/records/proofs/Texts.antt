@@ -13,8 +13,7 @@ use Rattle.fields.specs.Back.{same, Sure}
 use Rattle.fields.specs.Choice.{if_then_else_}
 use Rattle.fields.specs.Reading.{Reading, done, place, field, Answer, accepted, refused, run, _>>=_, _>>_, here, check, andThen}
 use Rattle.fields.proofs.Laws.{run-bind}
-use Rattle.fields.proofs.Numbers.{number-within}
-use Rattle.fields.proofs.Sure.{sure-then, sure-here, sure-check, sure-field, whatever}
+use Rattle.fields.proofs.Sure.{sure-then, sure-here, sure-check, sure-field, number-within, whatever}
 use Rattle.records.specs.Format.{sizeWidth, size, textLooking, text, begins, isWord}
 use Rattle.records.specs.declared.Dialect.{Dialect}
 use Rattle.records.specs.declared.Span.{Span}
@@ -114,13 +113,14 @@ module _ (s : List ℕ) (p : ℕ) (w : List ℕ) (i : ℕ) where
       let j : suc (p + i) ≡ p + (i + 1) = omega arith in
       rw (drop-cons w i 0 h, drop-cons s (p + i) 0 (omega arith), j, add-one i)
 
+-- a text that is inside has as many bytes as its span says
+pub bytes-length : (s : List ℕ) (a : Span) → a .place + a .len ≤ length s → length (take (a .len) (drop (a .place) s)) ≡ a .len
+bytes-length s a there = length-take-le (a .len) (drop (a .place) s) (rw length-drop (omega arith))
+
 -- a text's first bytes, as a key has them, against a word of fewer bytes
 module _ (w : List ℕ) (n : ℕ) (s : List ℕ) (a : Span) where
-  bytes-length : a .place + a .len ≤ length s → length (take (a .len) (drop (a .place) s)) ≡ a .len
-  bytes-length there = length-take-le (a .len) (drop (a .place) s) (rw length-drop (omega arith))
-
   first-length : a .place + a .len ≤ length s → length (take n (take (a .len) (drop (a .place) s))) ≡ min n (a .len)
-  first-length there = length-take n (take (a .len) (drop (a .place) s)) ∙ ap (min n) (bytes-length there)
+  first-length there = length-take n (take (a .len) (drop (a .place) s)) ∙ ap (min n) (bytes-length s a there)
 
   pub too-short : a .place + a .len ≤ length s → a .len < length w → begins w (take n (take (a .len) (drop (a .place) s))) ≡ false
   too-short there short = begins-short w (take n (take (a .len) (drop (a .place) s))) (rw (first-length there) (omega arith))

@@ -13,11 +13,11 @@ use Rattle.fields.specs.Choice.{if_then_else_}
 use Rattle.fields.specs.Reading.{Reading, done, refuse, place, field, known, Answer, accepted, refused, run}
 use Rattle.fields.specs.Value.{number}
 use Rattle.fields.proofs.Laws.{inside}
-use Rattle.fields.proofs.Sure.{sure-then, sure-done, sure-refuse, sure-here, sure-check, sure-if, sure-field, sure-run, whatever}
+use Rattle.fields.proofs.Sure.{sure-then, sure-done, sure-refuse, sure-here, sure-check, sure-if, sure-field, number-told, sure-run, whatever}
 use Rattle.records.specs.Contents.{typeOf, bytesAt, Content}
 use Rattle.records.specs.Format.{scalarWidth, depth, lengthAt, lengthsOf}
 use Rattle.records.specs.declared.Dialect.{Dialect}
-use Rattle.sheet.specs.Format.{bytes, Text, textOf, text, itemType, array, item, value, opening, framed, Line, keyed, metadata, shape, bigEnd, Drawn, drawn, tensor}
+use Rattle.sheet.specs.Format.{bytes, Text, textOf, text, scalar, itemType, array, item, value, opening, framed, Line, keyed, metadata, shape, bigEnd, Drawn, drawn, tensor}
 
 onward-next : {A : Type 0} (r : Answer A) (p w : ℕ) (a : A) (q : ℕ) (b : Bool) → (accepted a q ≡ r → p + w ≤ q) → accepted a q ≡ (if b then r else refused 1 p) → p ≤ q
 onward-next r p w a q true ih e =
@@ -59,7 +59,7 @@ pub record TensorTold (s : List ℕ) (p : ℕ) (t : Drawn) (q : ℕ) : Type 0 wh
   pub ends : q ≡ t .parts .name .place + t .parts .name .len + 5 + 8 * t .parts .shape .dimensions
 
 -- eight bytes for each of up to four lengths
-eights : (n : ℕ) → n ≤ 4 → (if ltb 0 n then 8 else 0) + (if ltb 1 n then 8 else 0) + (if ltb 2 n then 8 else 0) + (if ltb 3 n then 8 else 0) ≡ 8 * n
+pub eights : (n : ℕ) → n ≤ 4 → (if ltb 0 n then 8 else 0) + (if ltb 1 n then 8 else 0) + (if ltb 2 n then 8 else 0) + (if ltb 3 n then 8 else 0) ≡ 8 * n
 eights zero h = refl
 eights (suc zero) h = refl
 eights (suc (suc zero)) h = refl
@@ -68,9 +68,10 @@ eights (suc (suc (suc (suc zero)))) h = refl
 eights (suc (suc (suc (suc (suc n))))) h = absurd (omega arith)
 
 module _ (s : List ℕ) where
-  number-told : (w : ℕ) (big : Bool) (p : ℕ) → Sure s (number w big) p (λ v q. (q ≡ p + w) × (q ≤ length s))
-  unfolding number
-  number-told w big p = sure-field (λ there. (refl, there))
+  -- a scalar ends right after its bytes, which are there
+  pub scalar-told : (t p : ℕ) → Sure s (scalar t) p (λ v q. (q ≡ p + scalarWidth t) × (q ≤ length s))
+  unfolding scalar
+  scalar-told t p = sure-then (number-told s (scalarWidth t) true p) (λ v q h. sure-check (if eqb t 7 then leb v 1 else true) 31 0 _ (λ e. sure-done h))
 
   pub sure-textOf : (n p : ℕ) → Sure s (textOf n) p (TextTold s p)
   unfolding textOf bytes
@@ -80,7 +81,7 @@ module _ (s : List ℕ) where
 
   pub sure-text : (p : ℕ) → Sure s text p (TextTold s (p + 4))
   unfolding text
-  sure-text p = sure-then (number-told 4 true p) (λ n q h. subst (λ r. Sure s (textOf n) q (TextTold s r)) (h .0) (sure-textOf n q))
+  sure-text p = sure-then (number-told s 4 true p) (λ n q h. subst (λ r. Sure s (textOf n) q (TextTold s r)) (h .0) (sure-textOf n q))
 
   -- what a value is has the type that was asked for
   sure-array : (d : ℕ) (item : ℕ → Reading (Content d)) (p : ℕ) → Sure s (array d item) p (λ c q. typeOf c ≡ 9)
@@ -98,7 +99,7 @@ module _ (s : List ℕ) where
   pub sure-opening : (tag p : ℕ) → Sure s (opening tag) p (λ e q. (q ≡ p + 5) × (q ≤ length s))
   unfolding opening
   sure-opening tag p =
-      sure-then (number-told 4 true p) (λ n q h. sure-here _ (sure-then (number-told 1 true q) (λ t r g. sure-check (eqb t tag) 31 0 _ (λ e. sure-done (omega (arith, h .0, g .0), g .1)))))
+      sure-then (number-told s 4 true p) (λ n q h. sure-here _ (sure-then (number-told s 1 true q) (λ t r g. sure-check (eqb t tag) 31 0 _ (λ e. sure-done (omega (arith, h .0, g .0), g .1)))))
 
   -- an entry: what its inner program reads from its tag on, up to the entry's end
   pub sure-framed : {A : Type 0} (tag : ℕ) (inner : ℕ → Reading A) (p : ℕ) → Sure s (framed tag inner) p (λ a q. (p + 5 ≤ length s) × (accepted a q ≡ run (inner q) s (p + 5)))
@@ -118,7 +119,7 @@ module _ (s : List ℕ) where
   sure-keyed : (e p : ℕ) → Sure s (keyed e) (p + 5) (λ l q. e ≡ q → EntryTold s p l q)
   unfolding keyed
   sure-keyed e p =
-      sure-then (sure-text (p + 5)) (λ a q h. sure-then (number-told 1 true q) (λ t r g. sure-here _ (sure-then (sure-run (sure-value e t r)) (λ c u i. sure-done (λ j.
+      sure-then (sure-text (p + 5)) (λ a q h. sure-then (number-told s 1 true q) (λ t r g. sure-here _ (sure-then (sure-run (sure-value e t r)) (λ c u i. sure-done (λ j.
       record {
         starts = omega (arith, h .starts);
         there = omega (arith, h .starts, h .ends, h .there);
@@ -133,7 +134,7 @@ module _ (s : List ℕ) where
   length-told k n i p = by (ltb i n)
     where
       by : (b : Bool) → Sure s (if b then number 8 (k .big) else done 1) p (λ v q. q ≡ p + (if b then 8 else 0))
-      by true = record { holds = λ v q e. number-told 8 (k .big) p .holds v q e .0 }
+      by true = record { holds = λ v q e. number-told s 8 (k .big) p .holds v q e .0 }
       by false = sure-done (omega arith)
 
   lengths-told : (k : Dialect) (n p : ℕ) → n ≤ 4 → Sure s (lengthsOf k n) p (λ x q. q ≡ p + 8 * x .dimensions)
@@ -145,12 +146,12 @@ module _ (s : List ℕ) where
   shape-told : (p : ℕ) → Sure s shape p (λ x q. q ≡ p + 1 + 8 * x .dimensions)
   unfolding shape
   shape-told p =
-      sure-then (number-told 1 true p) (λ n q h. sure-check (leb n 4) 31 0 _ (λ e. subst (λ y. Sure s (lengthsOf bigEnd n) q (λ x r. r ≡ y + 8 * x .dimensions)) (h .0) (lengths-told bigEnd n q (leb-true _ _ e))))
+      sure-then (number-told s 1 true p) (λ n q h. sure-check (leb n 4) 31 0 _ (λ e. subst (λ y. Sure s (lengthsOf bigEnd n) q (λ x r. r ≡ y + 8 * x .dimensions)) (h .0) (lengths-told bigEnd n q (leb-true _ _ e))))
 
   sure-drawn : (p : ℕ) → Sure s drawn (p + 5) (TensorTold s p)
   unfolding drawn
   sure-drawn p =
-      sure-then (sure-text (p + 5)) (λ a q h. sure-then (number-told 4 true q) (λ k r g. sure-then (shape-told r) (λ x u i. sure-done
+      sure-then (sure-text (p + 5)) (λ a q h. sure-then (number-told s 4 true q) (λ k r g. sure-then (shape-told r) (λ x u i. sure-done
       (record {
         starts = omega (arith, h .starts);
         there = omega (arith, h .starts, h .ends, h .there);

@@ -4,18 +4,17 @@ use mathlib.Core.Path.{_≡_, refl, sym, ap, _∙_}
 use mathlib.Core.Bool.{Bool, true, false}
 use mathlib.Core.List.{List, _++_}
 use native.Mathlib.Omega.{arith}
-use lib.Dec.{leb, eqb}
+use lib.Dec.{eqb}
 use lib.ListN.{length, take, drop, length-append}
 use borrow.Author.Tests.{le-leb, eqb-true, eqb-false}
-use Rattle.fields.specs.Back.{got, Sure}
+use Rattle.fields.specs.Back.{got}
 use Rattle.fields.specs.Bytes.{bytesOf, rows}
-use Rattle.fields.specs.Choice.{if_then_else_}
 use Rattle.fields.specs.Each.{times}
 use Rattle.fields.specs.Reading.{Reading, done, Answer, accepted, refused, run, _>>=_, _>>_, check, andThen, isAccepted}
 use Rattle.fields.specs.Value.{number}
 use Rattle.fields.proofs.Bytes.{length-bytesOf}
 use Rattle.fields.proofs.Laws.{run-bind, goes-on, stops}
-use Rattle.fields.proofs.Sure.{sure-then, sure-done, sure-check, sure-field, sure-each, whatever}
+use Rattle.fields.proofs.Sure.{sure-each, whatever}
 use Rattle.records.specs.Contents.{Content, one, word, list, typeBytes, sizeBytes, textBytes, saidBytes, insideOf}
 use Rattle.records.specs.Format.{sizeWidth, scalarWidth, depth}
 use Rattle.records.specs.declared.Dialect.{Dialect}
@@ -27,7 +26,7 @@ use Rattle.sheet.specs.Sheet.{stepOf, spanOf}
 use Rattle.sheet.specs.declared.Stepped.the-variants.{To}
 use Rattle.sheet.specs.declared.TextFound.the-variants.{Found, Bad}
 use Rattle.sheet.proofs.Items.{has-none, item-text, item-none, value-text, value-none}
-use Rattle.sheet.proofs.Parts.{TextTold, sure-textOf, sure-text}
+use Rattle.sheet.proofs.Parts.{TextTold, scalar-told, sure-textOf, sure-text}
 use Rattle.sheet.proofs.Steps.{span-no, span-yes, step-yes}
 use Rattle.writer.specs.Output.{numberIn}
 
@@ -43,14 +42,6 @@ not-there e h =
     omega arith
 
 -- Scalars.
-
-number-told : (s : List ℕ) (w : ℕ) (p : ℕ) → Sure s (number w true) p (λ v q. (q ≡ p + w) × (q ≤ length s))
-unfolding number
-number-told s w p = sure-field (λ there. (refl, there))
-
-scalar-told : (t : ℕ) (s : List ℕ) (p : ℕ) → Sure s (scalar t) p (λ v q. (q ≡ p + scalarWidth t) × (q ≤ length s))
-unfolding scalar
-scalar-told t s p = sure-then (number-told s (scalarWidth t) p) (λ v q h. sure-check (if eqb t 7 then leb v 1 else true) 31 0 _ (λ e. sure-done h))
 
 -- a scalar of the type t at the place p, which r tells
 pub record ScalarSaid (d : ℕ) (k : Dialect) (t : ℕ) (s : List ℕ) (p : ℕ) (r : Answer (Content (suc d))) : Type 0 where
@@ -68,7 +59,7 @@ module _ (d : ℕ) (k : Dialect) (t : ℕ) (s : List ℕ) (p : ℕ) (r : Answer 
   scalar-by : (x : Answer ℕ) → x ≡ run (scalar t) s p → r ≡ andThen x (λ v q. accepted (one t v) q) → isAccepted r ≡ true → ScalarSaid d k t s p r
   unfolding andThen
   scalar-by (accepted v q) e i h =
-      let g = scalar-told t s p .holds v q e in
+      let g = scalar-told s t p .holds v q e in
       let b = scalar-bytes e i in
       record {
         there = ap isAccepted (sym e);

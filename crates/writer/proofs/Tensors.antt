@@ -1,61 +1,35 @@
 -- Tensors written one after the other, each at the offset where the one before it left off. Assumes nothing.
 use Prim.Native.Nat.{ℕ, suc, _+_, _-_, _≤_, _<_}
 use mathlib.Core.Path.{_≡_, refl, sym, ap, _∙_}
-use mathlib.Core.Bool.{Bool, true, false}
-use mathlib.Core.List.{List, [], _∷_, _++_, map}
+use mathlib.Core.Bool.{true}
+use mathlib.Core.List.{List, _∷_, _++_, map}
 use native.Mathlib.Omega.{arith}
 use native.Mathlib.Numerals.{add-one}
 use borrow.Author.Tests.{le-leb}
-use lib.Dec.{ltb}
 use lib.ListN.{length, length-append}
 use borrow.Rule.Slice.PartMut.{midOf, putMid}
 use Rattle.fields.specs.Back.{got}
-use Rattle.fields.specs.Bytes.{bytesOf, rows, Wrote}
-use Rattle.fields.specs.Choice.{if_then_else_}
+use Rattle.fields.specs.Bytes.{rows, Wrote}
 use Rattle.fields.specs.Each.{times}
 use Rattle.fields.specs.Reading.{accepted, refused, run, isAccepted}
-use Rattle.fields.proofs.Bytes.{length-bytesOf}
 use Rattle.fields.proofs.Turns.{times-accepted, times-never, times-ends}
 use Rattle.layout.specs.declared.Laid.{Laid}
 use Rattle.layout.specs.declared.Placed.the-variants.{At, Refused}
 use Rattle.layout.specs.Layout.{Layout, laidOut, refusedAt, ahead, nothingLaid, placeOf, layoutFrom, layoutOf}
 use Rattle.layout.proofs.Places.{layout-stops, layout-goes-on, placed-by}
 use Rattle.records.specs.declared.Dialect.{Dialect}
-use Rattle.records.specs.declared.Shape.{Shape}
-use Rattle.records.specs.declared.Span.{Span}
 use Rattle.records.specs.Format.{sizeWidth, lengths}
-use Rattle.records.specs.Contents.{Weight, bytesAt, insideOf, lengthBytes, shapeBytes, storedBytes, typeBytes, textBytes, tensorBytes}
+use Rattle.records.specs.Contents.{Weight, insideOf, tensorBytes}
 use Rattle.sheet.specs.declared.TensorParts.{TensorParts}
 use Rattle.sheet.specs.Format.{Drawn, tensor}
 use Rattle.sheet.proofs.Parts.{tensor-told}
 use Rattle.plan.specs.declared.LaidOut.the-variants.{Fits}
 use Rattle.plan.specs.Header.{pieceOf, weightAt, laidWith, weightsFrom}
 use Rattle.plan.specs.Plan.{laidOf}
-use Rattle.plan.proofs.Sizes.{type-length, text-length}
-use Rattle.writer.specs.Output.{lengthSize, shapeSize}
+use Rattle.plan.proofs.Sizes.{tensor-length}
+use Rattle.writer.specs.Output.{shapeSize}
 use Rattle.writer.proofs.Rows.{got-turn}
 use Rattle.writer.proofs.Loops.{Part, part-start, part-turn, part-end, part-room}
-
--- how many bytes a tensor has
-module _ (k : Dialect) where
-  length-cases : (b : Bool) (v : ℕ) → length (if b then bytesOf (k .big) 8 v else []) ≡ (if b then 8 else 0)
-  length-cases true v = length-bytesOf (k .big) 8 v
-  length-cases false v = refl
-
-  one-length : (n i v : ℕ) → length (lengthBytes k n i v) ≡ lengthSize n i
-  unfolding lengthBytes
-  one-length n i v = length-cases (ltb i n) v
-
-  pub shape-length : (x : Shape) → length (shapeBytes k x) ≡ shapeSize (x .dimensions)
-  unfolding shapeBytes
-  shape-length x =
-      let n = x .dimensions in
-      rw (length-append, length-append, length-append, length-append, type-length k n, one-length n 0 (x .first), one-length n 1 (x .second), one-length n 2 (x .third), one-length n 3 (x .fourth))
-
-  pub tensor-length : (w : Weight) → length (tensorBytes k w) ≡ sizeWidth k + length (w .name) + shapeSize (w .shape .dimensions) + 12
-  unfolding tensorBytes storedBytes
-  tensor-length w =
-      rw (length-append, length-append, length-append, text-length k (w .name), shape-length (w .shape), type-length k (w .kind), length-bytesOf (k .big) 8 (w .offset))
 
 -- the name of a tensor is what stands at its place
 pub name-stands : (s : List ℕ) (p : ℕ) {t : Drawn} {q : ℕ} → accepted t q ≡ run tensor s p → insideOf s (t .parts .name) ≡ t .name
