@@ -4,5 +4,6 @@ pub mod Parts
 pub mod Frames
 pub mod Many
 pub mod Whole
+pub mod Refusals
 pub mod Fits
 pub mod Examples
