@@ -86,11 +86,6 @@ abbrev pub heard : {I : Type 0} → Answer (Said I) → Said I
 heard (accepted c q) = c
 heard (refused n p) = word []
 
--- what an entry says
-abbrev pub spoken : Answer Line → Entered
-spoken (accepted e q) = e .entered
-spoken (refused n p) = record { key = []; said = word [] }
-
 -- what a sheet that is well formed says
 abbrev pub recordsIn : Answer Records → Records
 recordsIn (accepted c e) = c
