@@ -32,7 +32,7 @@ use Rattle.writer.proofs.Rows.{got-turn}
 use Rattle.writer.proofs.Loops.{Part, part-start, part-turn, part-end, part-room}
 
 -- the name of a tensor is what stands at its place
-pub name-stands : (s : List ℕ) (p : ℕ) {t : Drawn} {q : ℕ} → accepted t q ≡ run tensor s p → insideOf s (t .parts .name) ≡ t .name
+name-stands : (s : List ℕ) (p : ℕ) {t : Drawn} {q : ℕ} → accepted t q ≡ run tensor s p → insideOf s (t .parts .name) ≡ t .name
 name-stands s p {t} {q} e =
     let h = tensor-told s p e in
     rw (le-leb _ _ (h .there)) (h .name)
@@ -109,7 +109,7 @@ module _ (k : Dialect) (a : ℕ) (s : List ℕ) (m : ℕ) where
             part = rw (p .then) (part-turn _ _ ys n (g .part) bytes-left (rw (p .offset) at w) same);
           }
 
-      -- the same, as the code has its parts x and the bytes b of its name
+      -- the same, as the code has its parts x
       module _ (x : TensorParts) (told : x ≡ t .parts) where
         placed-alike : placeOf a laid (lengths (t .parts .shape)) (t .parts .kind) ≡ placeOf a laid (lengths (x .shape)) (x .kind)
         placed-alike = ap (λ (y : TensorParts). placeOf a laid (lengths (y .shape)) (y .kind)) (sym told)
@@ -117,14 +117,13 @@ module _ (k : Dialect) (a : ℕ) (s : List ℕ) (m : ℕ) where
         pub never-refused : {w : ℕ} → placeOf a laid (lengths (x .shape)) (x .kind) ≡ Refused w → ⊥
         never-refused r = going-refused (placed-alike ∙ r)
 
-        module _ (b : List ℕ) (named : b ≡ t .name) where
-          pub going-room : length whole ≤ length o → at + (sizeWidth k + length b + shapeSize (x .shape .dimensions) + 12) ≤ length out
-          going-room room = rw (named, told) (own-room room)
+        pub going-room : length whole ≤ length o → at + (sizeWidth k + length (insideOf s (x .name)) + shapeSize (x .shape .dimensions) + 12) ≤ length out
+        going-room room = rw (told, name-stands s from e) (own-room room)
 
-          written-alike : {offset : ℕ} → _≡_ {A = Weight} (record { name = b; shape = x .shape; kind = x .kind; offset = offset }) (weightAt t offset)
-          written-alike = rw (named, told)
+        written-alike : {offset : ℕ} → _≡_ {A = Weight} (record { name = insideOf s (x .name); shape = x .shape; kind = x .kind; offset = offset }) (weightAt t offset)
+        written-alike = rw (told, name-stands s from e)
 
-          pub going-on : {offset size : ℕ} {after : Laid} → placeOf a laid (lengths (x .shape)) (x .kind) ≡ At offset size after
-              → (ys : List ℕ) (n : ℕ) → Wrote (tensorBytes k (record { name = b; shape = x .shape; kind = x .kind; offset = offset })) (midOf at (length out - at) out) ys n
-              → length ys ≡ length (midOf at (length out - at) out) → Going o (putMid at (length out - at) out ys) (at + n) q after (i + 1) whole
-          going-on r ys n w same = goes-on (placed-alike ∙ r) ys n (rw written-alike at w) same
+        pub going-on : {offset size : ℕ} {after : Laid} → placeOf a laid (lengths (x .shape)) (x .kind) ≡ At offset size after
+            → (ys : List ℕ) (n : ℕ) → Wrote (tensorBytes k (record { name = insideOf s (x .name); shape = x .shape; kind = x .kind; offset = offset })) (midOf at (length out - at) out) ys n
+            → length ys ≡ length (midOf at (length out - at) out) → Going o (putMid at (length out - at) out ys) (at + n) q after (i + 1) whole
+        going-on r ys n w same = goes-on (placed-alike ∙ r) ys n (rw written-alike at w) same

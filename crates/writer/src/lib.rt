@@ -365,6 +365,30 @@ fn write_tensor_info(
     b + write_stored(&mut out[b..], kind, offset, dialect)
 }
 
+// A tensor whose parts stand in the sheet, at the offset where it is laid.
+fn write_laid_tensor(
+    out: &mut [u8],
+    s: &[u8],
+    parts: TensorParts,
+    offset: u64,
+    dialect: Dialect,
+) -> usize
+    requires { ⌜ sizeWidth dialect + length (contents.insideOf (now s) (parts .name)) + output.shapeSize (parts .shape .dimensions) + 12 ≤ length (now out) ⌝ }
+    ensures { λ r. ⌜ r ≡ sizeWidth dialect + length (contents.insideOf (now (s .entry)) (parts .name)) + output.shapeSize (parts .shape .dimensions) + 12 ⌝ }
+    ensures { λ r. ⌜ Wrote (contents.tensorBytes dialect (record { name = contents.insideOf (now (s .entry)) (parts .name); shape = parts .shape; kind = parts .kind; offset = offset })) (now (out .entry)) (now (out .exit)) r ⌝ }
+{
+    let name = parts.name;
+    let shape = parts.shape;
+    write_tensor_info(
+        out,
+        records::inside(s, name),
+        shape,
+        parts.kind,
+        offset,
+        dialect,
+    )
+}
+
 // m tensors from a place on, which are all there and can be laid.
 fn write_tensor_info_section(
     out: &mut [u8],
@@ -395,16 +419,7 @@ fn write_tensor_info_section(
         else {
             return done;
         };
-        let name = parts.name;
-        let shape = parts.shape;
-        done += write_tensor_info(
-            &mut out[done..],
-            records::inside(s, name),
-            shape,
-            parts.kind,
-            offset,
-            dialect,
-        );
+        done += write_laid_tensor(&mut out[done..], s, parts, offset, dialect);
         laid = after;
         from = next;
         i += 1;

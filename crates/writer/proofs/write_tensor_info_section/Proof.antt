@@ -2,7 +2,7 @@
 -- tensor that can't be laid was refused before. Assumes nothing.
 use borrow.Author.Needs.{needs}
 use Prim.Native.Nat.{_+_, _-_, _≤_}
-use mathlib.Core.Path.{_≡_, refl, sym, ap, _∙_}
+use mathlib.Core.Path.{sym, _∙_}
 use native.Mathlib.Omega.{arith}
 use denote.Ref.{now}
 use lib.ListN.{length, length-take, length-drop}
@@ -12,13 +12,12 @@ use Rattle.fields.specs.Each.{times}
 use Rattle.fields.specs.Reading.{run}
 use Rattle.layout.specs.Layout.{nothingLaid}
 use Rattle.records.specs.Format.{sizeWidth}
-use Rattle.sheet.specs.declared.TensorParts.{TensorParts}
 use Rattle.records.specs.Contents.{insideOf, tensorBytes}
 use Rattle.sheet.specs.Format.{Drawn, tensor}
 use Rattle.sheet.proofs.Steps.{Shows, tensor-no, tensor-yes}
 use Rattle.plan.specs.Header.{weightsFrom}
 use Rattle.writer.specs.Output.{shapeSize}
-use Rattle.writer.proofs.Tensors.{Going, going-start, going-none, going-end, going-within, never-refused, going-room, going-on, name-stands}
+use Rattle.writer.proofs.Tensors.{Going, going-start, going-none, going-end, going-within, never-refused, going-room, going-on}
 use Rattle.writer.proofs.write_tensor_info_section.Statement.{statement}
 use Rattle.writer.proofs.write_tensor_info_section.Tie as tie
 
@@ -37,28 +36,21 @@ found c =
     let a = c .before .before .before .before .before .before .before .args in
     tensor-yes (run tensor (now (a .s)) (c .before .before .before .before .loop .from)) (sym (c .parts .given .1) ∙ c .before .before .tensor-at .ensures)
 
--- the name that is written is its own
-named : (c : tie.After-inside Inv-loop μ-loop) → now (c .inside .result) ≡ found (c .before .before .before .before .before .before .before .before .before) .what .name
-named c =
-    let f = found (c .before .before .before .before .before .before .before .before .before) in
-    let s = now (c .before .before .before .before .before .before .before .before .before .before .before .before .before .before .before .before .args .s) in
-    c .inside .ensures ∙ ap (λ (x : TensorParts). insideOf s (x .name)) (f .told) ∙ name-stands s (c .before .before .before .before .before .before .before .before .before .before .before .before .before .loop .from) (f .is)
-
 -- there is room for it
-room : (c : tie.After-inside Inv-loop μ-loop) →
-    c .before .before .before .before .before .before .before .before .before .before .before .before .before .loop .done + (sizeWidth (c .before .before .before .before .before .before .before .before .before .before .before .before .before .before .before .before .args .dialect) + length (now (c .inside .result)) + shapeSize (c .before .before .before .before .before .before .before .before .before .parts .given .0 .0 .shape .dimensions) + 12) ≤ length (c .before .before .before .before .before .before .before .before .before .before .before .before .before .loop .out)
+room : (c : tie.After-parts Inv-loop μ-loop) →
+    let a = c .before .before .before .before .before .before .before .args in
+    let l = c .before .before .before .before .loop in
+    let x = c .parts .given .0 .0 in
+    l .done + (sizeWidth (a .dialect) + length (insideOf (now (a .s)) (x .name)) + shapeSize (x .shape .dimensions) + 12) ≤ length (l .out)
 room c =
-    let f = found (c .before .before .before .before .before .before .before .before .before) in
-    going-room _ _ _ _ (c .before .before .before .before .before .before .before .before .before .before .before .before .before .loop .inv) (c .before .before .before .before .before .before .before .before .before .before .before .before .loop-test .taken) (f .is) _ (f .told) _ (named c) (c .before .before .before .before .before .before .before .before .before .before .before .before .before .before .before .before .pre .1 .1)
+    let f = found c in
+    going-room _ _ _ _ (c .before .before .before .before .loop .inv) (c .before .before .before .loop-test .taken) (f .is) _ (f .told) (c .before .before .before .before .before .before .before .pre .1 .1)
 
 loop-holds : tie.Need-loop-holds Inv-loop μ-loop
 loop-holds c =
     let a = c .before .before .args in
     let p = c .before .before .pre in
     going-start (a .dialect) (a .alignment) (now (a .s)) (a .m) (now (a .out)) (a .first) (p .0) (p .1 .0)
-
-enum-told : tie.Need-enum-told Inv-loop μ-loop
-enum-told c = search needs
 
 same-length : tie.Need-same-length Inv-loop μ-loop
 same-length c = c .before .before .before .before .loop .inv .part .same
@@ -79,31 +71,25 @@ returns-2 c =
     let l = c .before .before .before .before .before .before .before .before .loop in
     absurd (never-refused _ _ _ _ (l .inv) (c .before .before .before .before .before .before .before .loop-test .taken) (f .is) _ (f .told) (sym (c .before .before .lay .ensures) ∙ c .enum-told2 .given .1))
 
-sub-write-tensor-info : tie.Need-sub-write-tensor-info Inv-loop μ-loop
-sub-write-tensor-info c = omega (arith, going-within _ _ _ _ (c .before .before .before .before .before .before .before .before .before .before .before .loop .inv) (c .before .before .before .before .before .before .before .before .before .before .before .before .before .before .pre .1 .1))
+-- what is written so far is within the output
+within : (c : tie.After-known-told2 Inv-loop μ-loop) → c .before .before .before .before .before .before .before .before .before .loop .done ≤ length (c .before .before .before .before .before .before .before .before .before .loop .out)
+within c = going-within _ _ _ _ (c .before .before .before .before .before .before .before .before .before .loop .inv) (c .before .before .before .before .before .before .before .before .before .before .before .before .pre .1 .1)
 
-part-write-tensor-info-start : tie.Need-part-write-tensor-info-start Inv-loop μ-loop
-part-write-tensor-info-start c = omega (arith, going-within _ _ _ _ (c .before .before .before .before .before .before .before .before .before .before .before .loop .inv) (c .before .before .before .before .before .before .before .before .before .before .before .before .before .before .pre .1 .1))
-
-part-write-tensor-info-end : tie.Need-part-write-tensor-info-end Inv-loop μ-loop
-part-write-tensor-info-end c = omega (arith, going-within _ _ _ _ (c .before .before .before .before .before .before .before .before .before .before .before .loop .inv) (c .before .before .before .before .before .before .before .before .before .before .before .before .before .before .pre .1 .1))
-
-write-tensor-info-requires : tie.Need-write-tensor-info-requires Inv-loop μ-loop
-write-tensor-info-requires c κs = simp (length-take, length-drop) (omega (arith, room c))
+write-laid-tensor-requires : tie.Need-write-laid-tensor-requires Inv-loop μ-loop
+write-laid-tensor-requires c κs = simp (length-take, length-drop) (omega (arith, room (c .before .before .before .before .before .before)))
 
 add-done : tie.Need-add-done Inv-loop μ-loop
-add-done c = omega (arith, room (c .before .before .before), c .before .before .write-tensor-info .ensures .0, c .before .before .before .before .before .before .before .before .before .before .before .before .before .before .before .before .loop .inv .part .same, c .before .before .before .before .before .before .before .before .before .before .before .before .before .before .before .before .before .before .before .good, c .before .before .before .before .before .before .before .before .before .before .before .before .before .before .before .before .before .before .before .fits)
+add-done c = omega (arith, room (c .before .before .before .before .before .before .before .before .before), c .before .before .write-laid-tensor .ensures .0, c .before .before .before .before .before .before .before .before .before .before .before .before .before .loop .inv .part .same, c .before .before .before .before .before .before .before .before .before .before .before .before .before .before .before .before .good, c .before .before .before .before .before .before .before .before .before .before .before .before .before .before .before .before .fits)
 
 add-i : tie.Need-add-i Inv-loop μ-loop
-add-i c = omega (arith, c .before .before .before .before .before .before .before .before .before .before .before .before .before .before .before .before .before .before .before .fits)
+add-i c = omega (arith, c .before .before .before .before .before .before .before .before .before .before .before .before .before .before .before .before .fits)
 
 loop-again : tie.Need-loop-again Inv-loop μ-loop
 loop-again c =
-    let x = c .before .before .before in
-    let f = found (c .before .before .before .before .before .before .before .before .before .before .before .before) in
-    let p = sym (c .before .before .before .before .before .before .before .before .before .before .lay .ensures) ∙ c .before .before .before .before .before .before .before .before .offset .given .1 in
-    let w = c .before .before .write-tensor-info in
-    going-on _ _ _ _ (c .before .before .before .before .before .before .before .before .before .before .before .before .before .before .before .before .loop .inv) (c .before .before .before .before .before .before .before .before .before .before .before .before .before .before .before .loop-test .taken) (f .is) _ (f .told) _ (named x) p _ _ (w .ensures .1) (w .kept .0)
+    let f = found (c .before .before .before .before .before .before .before .before .before) in
+    let p = sym (c .before .before .before .before .before .before .before .lay .ensures) ∙ c .before .before .before .before .before .offset .given .1 in
+    let w = c .before .before .write-laid-tensor in
+    going-on _ _ _ _ (c .before .before .before .before .before .before .before .before .before .before .before .before .before .loop .inv) (c .before .before .before .before .before .before .before .before .before .before .before .before .loop-test .taken) (f .is) _ (f .told) p _ _ (w .ensures .1) (w .kept .0)
 
 same-length-3 : tie.Need-same-length-3 Inv-loop μ-loop
 same-length-3 c = c .before .loop .inv .part .same
@@ -120,7 +106,7 @@ write-tensor-info-section-spec =
     loop-holds
     (λ c κs. search needs)
     (λ c. search needs)
-    enum-told
+    (λ c. search needs)
     same-length
     returns
     (λ c κs. search needs)
@@ -128,11 +114,10 @@ write-tensor-info-section-spec =
     (λ c. search needs)
     same-length-2
     returns-2
-    sub-write-tensor-info
-    part-write-tensor-info-start
-    part-write-tensor-info-end
-    (λ c κs. search needs)
-    write-tensor-info-requires
+    (λ c. omega (arith, within c))
+    (λ c. omega (arith, within c))
+    (λ c. omega (arith, within c))
+    write-laid-tensor-requires
     add-done
     add-i
     (λ c. search needs)
