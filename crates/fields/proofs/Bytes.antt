@@ -58,7 +58,8 @@ pub rest : Bool → ℕ → ℕ → ℕ → List ℕ → List ℕ
 rest true w n x o = reverse (little n x) ++ drop n o
 rest false w n x o = take (w - n) o ++ (little n x ++ drop w o)
 
-drop-set : (o : List ℕ) (n b : ℕ) → n < length o → drop n (set o n b) ≡ b ∷ drop (suc n) o
+-- a stored byte stands in front of what follows it
+pub drop-set : (o : List ℕ) (n b : ℕ) → n < length o → drop n (set o n b) ≡ b ∷ drop (suc n) o
 drop-set o n b h =
     let h' : n < length (set o n b) = omega (arith, length-set o n b) in
     rw (drop-cons (set o n b) n 0 h', getD-set-same o n b 0 h, drop-set-lt (suc n) o n b (omega arith))

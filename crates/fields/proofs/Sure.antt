@@ -116,10 +116,6 @@ pub all-map : {A C : Type 0} {P : A → Type 0} (Q : C → Type 0) (view : A →
 all-map Q view f [] h = tt
 all-map Q view f (a ∷ l) h = (f a (h .0), all-map Q view f l (h .1))
 
-pub length-map : {A C : Type 0} (view : A → C) (l : List A) → length (map view l) ≡ length l
-length-map view [] = refl
-length-map view (a ∷ l) = ap suc (length-map view l)
-
 -- what is sure of a program is sure of it under ceilings too
 pub sure-under : {A : Type 0} {s : List ℕ} {m : Reading A} {p : ℕ} {P : A → ℕ → Type 0} (l : Limits) → Sure s m p P → Sure s (under l m) p P
 sure-under {s = s} {m} {p} l h = record { holds = λ a q e. h .holds a q (let-through l (marks m s p) _ (e ∙ ceilings l m s p)) }

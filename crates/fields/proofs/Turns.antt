@@ -8,6 +8,7 @@ use native.Mathlib.Numerals.{add-one}
 use lib.ListN.{length, take, drop, set, take-append-drop}
 use lib.Seq.{drop-drop, take-suc-set, drop-set-lt}
 use lib.Dec.{T}
+use Rattle.fields.specs.Back.{got}
 use Rattle.fields.specs.Bytes.{rows}
 use Rattle.fields.specs.Each.{each, times, fold, filled}
 use Rattle.fields.specs.Reading.{Reading, done, Answer, accepted, refused, run, _>>=_, andThen, seen, passed, isAccepted}
@@ -31,6 +32,11 @@ accepted-then : {A : Type 0} (a : A) (r : Answer (List A)) → isAccepted (andTh
 unfolding andThen
 accepted-then a (accepted l p) h = h
 accepted-then a (refused n p) h = h
+
+got-cons : {A : Type 0} (a : A) (r : Answer (List A)) → isAccepted (andThen r (λ l p. accepted (a ∷ l) p)) ≡ true → got (andThen r (λ l p. accepted (a ∷ l) p)) ≡ a ∷ got r
+unfolding andThen
+got-cons a (accepted l p) h = refl
+got-cons a (refused n p) h = let z : _≡_ {A = ℕ} 0 1 = cc in absurd (omega arith)
 
 -- a row that is stored, and the rows that are left
 row-cons : {B : Type 0} (rows : List B) (i : ℕ) (b : B) (bs : List B) (k : ℕ) → i < length rows
@@ -109,6 +115,12 @@ module _ {A : Type 0} (m : Reading A) (s : List ℕ) (at n i : ℕ) where
 
   pub times-accepted : i < n → {a : A} {q : ℕ} → accepted a q ≡ run m s at → isAccepted (run (times (n - i) m) s at) ≡ true → isAccepted (run (times (n - (i + 1)) m) s q) ≡ true
   times-accepted = each-accepted {S = Unit {0}} (λ z. m) (λ z a. z) s at n i tt
+
+  -- the first of those that are left, and the others
+  pub times-got : i < n → {a : A} {q : ℕ} → accepted a q ≡ run m s at → isAccepted (run (times (n - i) m) s at) ≡ true → got (run (times (n - i) m) s at) ≡ a ∷ got (run (times (n - (i + 1)) m) s q)
+  times-got below {a} {q} e all =
+      let t = each-more {S = Unit {0}} (λ z. m) (λ z a. z) s at n i tt below e in
+      ap got t ∙ got-cons a (run (times (n - (i + 1)) m) s q) (rw t at all)
 
   pub times-filled : i < n → {a : A} {q : ℕ} → accepted a q ≡ run m s at → isAccepted (run (times (n - i) m) s at) ≡ true → {B : Type 0} (row : A → B) (rows : List B) → i < length rows
       → take i rows ++ filled row (drop i rows) (run (times (n - i) m) s at) ≡ take (i + 1) (set rows i (row a)) ++ filled row (drop (i + 1) (set rows i (row a))) (run (times (n - (i + 1)) m) s q)

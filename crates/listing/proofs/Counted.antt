@@ -3,12 +3,11 @@ use Prim.Native.Nat.{ℕ, _-_, _≤_}
 use mathlib.Core.Path.{_≡_, refl, sym, ap, subst, _∙_}
 use mathlib.Core.List.{List, _++_, map}
 use native.Mathlib.Nat.{sub-zero}
-use lib.ListN.{length, drop}
+use lib.ListN.{length, drop, length-map}
 use lib.Seq.{take-at}
 use borrow.Rule.Slice.PartMut.{midOf}
 use Rattle.fields.specs.Each.{filled}
 use Rattle.fields.specs.Reading.{accepted, refused, seen}
-use Rattle.fields.proofs.Sure.{length-map}
 use Rattle.fields.proofs.Turns.{seen-accepted, seen-refused}
 use Rattle.records.specs.Rows.{entryRow, tensorRow}
 use Rattle.header.specs.Answers.{full, wholeOf}
@@ -20,7 +19,7 @@ use Rattle.listing.specs.Text.{refusalLine, linesOf, textOf, listingIn}
 
 -- the first rows of a table that was filled
 first-rows : {A : Type 0} (row : A → List ℕ) (l : List A) (n : ℕ) (old : List (List ℕ)) → length l ≡ n → midOf 0 (n - 0) (map row l ++ drop (length l) old) ≡ map row l
-first-rows row l n old e = rw (sub-zero n) (take-at (map row l) (drop (length l) old) n (length-map row l ∙ e))
+first-rows row l n old e = rw (sub-zero n) (take-at (map row l) (drop (length l) old) n (length-map l row ∙ e))
 
 module _ (s : List ℕ) (es ts : List (List ℕ)) where
   abbrev rooms : Rooms

@@ -5,18 +5,13 @@ use mathlib.Core.Bool.{Bool, true, false}
 use mathlib.Core.List.{List, [], _∷_, _++_, append-assoc}
 use native.Mathlib.Omega.{arith}
 use native.Mathlib.Numerals.{sub-one}
-use native.Mathlib.Nat.{not-suc-le-zero, le-of-suc-le-suc, pow-suc}
+use native.Mathlib.Nat.{pow-suc}
 use lib.Dec.{ltb}
 use lib.ListN.{length, drop, set}
 use borrow.Author.Tests.{lt-ltb, le-ltb, ltb-true}
 use Rattle.fields.specs.Choice.{if_then_else_}
+use Rattle.fields.proofs.Bytes.{drop-set}
 use Rattle.listing.specs.Text.{digits, decimal}
-
--- a stored byte stands in front of what follows it
-drop-set : (l : List ℕ) (i v : ℕ) → i < length l → drop i (set l i v) ≡ v ∷ drop (suc i) l
-drop-set [] i v h = absurd (not-suc-le-zero h)
-drop-set (x ∷ l) zero v h = refl
-drop-set (x ∷ l) (suc i) v h = drop-set l i v (le-of-suc-le-suc h)
 
 -- a digit more is stored, and those before it are left
 pub digits-turn : (at rest : ℕ) (places : List ℕ) → 0 < at → 9 < rest → at < length places

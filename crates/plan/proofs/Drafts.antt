@@ -6,7 +6,7 @@ use mathlib.Core.Bool.{Bool, true, false}
 use mathlib.Core.List.{List, [], _∷_, map}
 use native.Mathlib.Omega.{arith}
 use lib.Dec.{leb, eqb}
-use lib.ListN.{length}
+use lib.ListN.{length, length-map}
 use borrow.Author.Tests.{le-leb, lt-leb, leb-true, leb-false, eqb-false}
 use Rattle.fields.specs.Back.{got}
 use Rattle.fields.specs.Bytes.{rows}
@@ -14,7 +14,6 @@ use Rattle.fields.specs.Choice.{if_then_else_}
 use Rattle.fields.specs.Each.{times}
 use Rattle.fields.specs.Order.{before}
 use Rattle.fields.specs.Reading.{Answer, accepted, refused, run, isAccepted}
-use Rattle.fields.proofs.Sure.{length-map}
 use Rattle.layout.specs.Layout.{nothingLaid}
 use Rattle.layout.specs.Padding.{padded}
 use Rattle.layout.proofs.Padding.{padded-above}
@@ -33,7 +32,7 @@ use Rattle.plan.proofs.Rooms.{taken-thrice}
 use Rattle.plan.proofs.Sizes.{one-length, entry-length, header-length, rows-none, rows-more}
 
 -- the entry that is added
-added-length : (k : Dialect) (a : ℕ) → length (entryBytes k (alignmentEntry a)) ≡ sizeWidth k + 25
+pub added-length : (k : Dialect) (a : ℕ) → length (entryBytes k (alignmentEntry a)) ≡ sizeWidth k + 25
 unfolding scalarWidth
 added-length k a = entry-length k (alignmentEntry a) ∙ omega (arith, one-length k depth 4 a)
 
@@ -59,8 +58,8 @@ with-length k true a es = inserted-length k a (map enteredIn es)
 with-length k false a es = omega arith
 
 with-count : (b : Bool) (a : ℕ) (es : List Line) → length (entriesWith b a es) ≡ length es + (if b then 1 else 0)
-with-count true a es = inserted-count a (map enteredIn es) ∙ ap (λ n. n + 1) (length-map enteredIn es)
-with-count false a es = length-map enteredIn es ∙ omega arith
+with-count true a es = inserted-count a (map enteredIn es) ∙ ap (λ n. n + 1) (length-map es enteredIn)
+with-count false a es = length-map es enteredIn ∙ omega arith
 
 -- how many entries the header has
 pub entries-count : (a : ℕ) (es : List Line) → length (entriesOf a es) ≡ length es + (if adds a (saidIn es) then 1 else 0)

@@ -56,11 +56,13 @@ module _ (k : Dialect) where
       length-append (typeBytes k t ++ sizeBytes k (length l)) (rows (saidBytes d k) l)
       ∙ ap (λ n. n + length (rows (saidBytes d k) l)) (length-append (typeBytes k t) (sizeBytes k (length l)) ∙ rw (type-length t, size-length (length l)) (omega arith))
 
+  -- a key, a type and a value
+  pub entry-size : (b : List ℕ) (t : ℕ) (l : List ℕ) → length (textBytes k b ++ typeBytes k t ++ l) ≡ sizeWidth k + length b + 4 + length l
+  entry-size b t l = length-append (textBytes k b ++ typeBytes k t) l ∙ rw (length-append (textBytes k b) (typeBytes k t), text-length b, type-length t)
+
   pub entry-length : (e : Entered) → length (entryBytes k e) ≡ sizeWidth k + 4 + length (e .key) + length (saidBytes (suc depth) k (e .said))
   unfolding entryBytes
-  entry-length e =
-      length-append (textBytes k (e .key) ++ typeBytes k (typeOf (e .said))) (saidBytes (suc depth) k (e .said))
-      ∙ ap (λ n. n + length (saidBytes (suc depth) k (e .said))) (length-append (textBytes k (e .key)) (typeBytes k (typeOf (e .said))) ∙ rw (text-length (e .key), type-length (typeOf (e .said))) (omega arith))
+  entry-length e = entry-size (e .key) (typeOf (e .said)) (saidBytes (suc depth) k (e .said)) ∙ omega arith
 
   -- a length of a shape
   one-more : (n i v : ℕ) → length (lengthBytes k n i v) ≡ eight n i

@@ -4,7 +4,6 @@ use Prim.Native.Nat.{ℕ, suc, _+_, _-_, _*_, _≤_, _<_}
 use mathlib.Core.Path.{_≡_, refl, sym, ap, subst, _∙_}
 use mathlib.Core.Bool.{true}
 use mathlib.Core.List.{List, [], _∷_, _++_, map}
-use native.Mathlib.Omega.{arith}
 use native.Mathlib.Numerals.{add-one}
 use lib.Dec.{leb}
 use lib.ListN.{length, length-append}
@@ -13,9 +12,9 @@ use Rattle.fields.specs.Back.{got, Sure}
 use Rattle.fields.specs.Bytes.{rows}
 use Rattle.fields.specs.Choice.{if_then_else_}
 use Rattle.fields.specs.Each.{times, fold}
-use Rattle.fields.specs.Reading.{Reading, Answer, accepted, refused, run, andThen, isAccepted}
+use Rattle.fields.specs.Reading.{Reading, accepted, run, isAccepted}
 use Rattle.fields.proofs.Sure.{sure-then, sure-done, sure-check, sure-so, whatever}
-use Rattle.fields.proofs.Turns.{each-more, times-ends, times-never, times-accepted}
+use Rattle.fields.proofs.Turns.{times-ends, times-never, times-accepted, times-got}
 use Rattle.layout.specs.declared.Laid.{Laid}
 use Rattle.layout.specs.declared.Placed.the-variants.{At, Refused}
 use Rattle.layout.specs.Layout.{Layout, laidOut, refusedAt, ahead, nothingLaid, placeOf, layoutFrom}
@@ -44,21 +43,9 @@ use Rattle.plan.proofs.Rooms.{taken-none, taken-twice}
 use Rattle.plan.proofs.Sizes.{entry-length, stored-length, tensor-eights, rows-none, rows-more}
 use Rattle.plan.proofs.Measures.{heard-one}
 
-got-cons : {A : Type 0} (a : A) (r : Answer (List A)) → isAccepted (andThen r (λ l p. accepted (a ∷ l) p)) ≡ true → got (andThen r (λ l p. accepted (a ∷ l) p)) ≡ a ∷ got r
-unfolding andThen
-got-cons a (accepted l p) h = refl
-got-cons a (refused n p) h = let z : _≡_ {A = ℕ} 0 1 = cc in absurd (omega arith)
-
--- what is left of a list, as a loop has it that counts i up to n
-module _ {A : Type 0} (m : Reading A) (s : List ℕ) (at n i : ℕ) where
-  pub got-ends : n ≤ i → got (run (times (n - i) m) s at) ≡ []
-  got-ends h = ap got (times-ends m s at n i h)
-
-  got-more : i < n → {a : A} {q : ℕ} → accepted a q ≡ run m s at → isAccepted (run (times (n - i) m) s at) ≡ true
-      → got (run (times (n - i) m) s at) ≡ a ∷ got (run (times (n - (i + 1)) m) s q)
-  got-more below {a} {q} e all =
-      let r = each-more {S = Unit {0}} (λ z. m) (λ z a. z) s at n i tt below e in
-      ap got r ∙ got-cons a (run (times (n - (i + 1)) m) s q) (rw r at all)
+-- nothing is left, as a loop has it that counts i up to n
+pub got-ends : {A : Type 0} (m : Reading A) (s : List ℕ) (at n i : ℕ) → n ≤ i → got (run (times (n - i) m) s at) ≡ []
+got-ends m s at n i h = ap got (times-ends m s at n i h)
 
 -- the bytes of the entries from a place on
 abbrev pub entriesLength : Dialect → ℕ → List ℕ → ℕ → ℕ
@@ -83,7 +70,7 @@ module _ (s : List ℕ) (at n i : ℕ) (below : i < n) (all : isAccepted (run (t
     parts = entry-yes (run metadata s at) found .told
 
     left : got (run (times (n - i) metadata) s at) ≡ line ∷ got (run (times (n - (i + 1)) metadata) s q)
-    left = got-more metadata s at n i below read all
+    left = times-got metadata s at n i below read all
 
     pub entry-rest : isAccepted (run (times (n - (i + 1)) metadata) s q) ≡ true
     entry-rest = times-accepted metadata s at n i below read all
@@ -143,7 +130,8 @@ any-offsets k a b l l′ (t ∷ ts) =
     ∙ (let e = any-offset k t (l .next) (l′ .next) in let h = any-offsets k a b (laidWith a l t) (laidWith b l′ t) ts in rw (e, h))
     ∙ sym (rows-more (tensorBytes k) (weightAt t (l′ .next)) _)
 
-laid-ahead : (o : ℕ) (y : Layout) → laidOf (ahead o y) ≡ laidOf y
+-- what is ahead of a layout does not change whether it is one
+pub laid-ahead : (o : ℕ) (y : Layout) → laidOf (ahead o y) ≡ laidOf y
 laid-ahead o (laidOut offsets laid) = refl
 laid-ahead o (refusedAt why i) = refl
 
@@ -162,7 +150,7 @@ module _ (s : List ℕ) (at n i : ℕ) (below : i < n) (all : isAccepted (run (t
     one-parts = tensor-yes (run tensor s at) found .told
 
     ones-left : got (run (times (n - i) tensor) s at) ≡ one ∷ got (run (times (n - (i + 1)) tensor) s q)
-    ones-left = got-more tensor s at n i below one-read all
+    ones-left = times-got tensor s at n i below one-read all
 
     pub tensor-rest : isAccepted (run (times (n - (i + 1)) tensor) s q) ≡ true
     tensor-rest = times-accepted tensor s at n i below one-read all

@@ -3,10 +3,9 @@ use Prim.Native.Nat.{ℕ, _^_, _<_}
 use mathlib.Core.Path.{_≡_, refl, sym, ap, _∙_}
 use mathlib.Core.List.{List, _++_, map}
 use native.Mathlib.Omega.{arith}
-use lib.ListN.{length}
+use lib.ListN.{length, length-map}
 use Rattle.fields.specs.Back.{All, Byte}
 use Rattle.fields.specs.Reading.{Answer, accepted, refused, seen}
-use Rattle.fields.proofs.Sure.{length-map}
 use Rattle.records.specs.declared.Dialect.{Dialect}
 use Rattle.records.specs.Contents.{enteredOf, weightOf}
 use Rattle.header.specs.declared.Header.{Header}
@@ -33,8 +32,8 @@ headOf t = record {
 -- of what is read, it is the header that is answered
 head-told : (s : List ℕ) (w : Whole) → length (w .entries) ≡ w .head .entries → length (w .tensors) ≡ w .head .tensors → w .head ≡ headOf (toldIn s w)
 head-told s w entries tensors =
-    let e : w .head .entries ≡ length (map (enteredOf (dialectOf w) s) (w .entries)) = sym (length-map (enteredOf (dialectOf w) s) (w .entries) ∙ entries) in
-    let t : w .head .tensors ≡ length (map (weightOf s) (w .tensors)) = sym (length-map (weightOf s) (w .tensors) ∙ tensors) in
+    let e : w .head .entries ≡ length (map (enteredOf (dialectOf w) s) (w .entries)) = sym (length-map (w .entries) (enteredOf (dialectOf w) s) ∙ entries) in
+    let t : w .head .tensors ≡ length (map (weightOf s) (w .tensors)) = sym (length-map (w .tensors) (weightOf s) ∙ tensors) in
     rw (← e, ← t)
 
 told-head : (cap : ℕ) (es ts : List (List ℕ)) (s : List ℕ) (x : Answer Whole) → x ≡ wholeOf full cap es ts s → {t : Told} {q : ℕ} → seen (toldIn s) x ≡ accepted t q

@@ -17,7 +17,7 @@ use Rattle.kinds.proofs.Rows.{written-known}
 use Rattle.layout.specs.declared.Laid.{Laid}
 use Rattle.layout.specs.declared.Placed.{Placed}
 use Rattle.layout.specs.declared.Placed.the-variants.{At, Refused as NotPlaced}
-use Rattle.layout.specs.Layout.{nothingLaid, placeOf, Layout, laidOut, refusedAt, ahead, layoutFrom}
+use Rattle.layout.specs.Layout.{nothingLaid, placeOf, layoutFrom}
 use Rattle.layout.proofs.Places.{layout-stops, layout-goes-on, placed-by}
 use Rattle.records.specs.declared.Dialect.{Dialect}
 use Rattle.records.specs.Format.{sizeWidth, alignmentKey, scalarWidth, lengths}
@@ -33,6 +33,7 @@ use Rattle.plan.specs.Header.{saidIn, adds, alignmentEntry, inserted, enteredIn
 use Rattle.plan.specs.Plan.{canAdd, laidOf, countsFit}
 use Rattle.plan.proofs.Drafts.{padded-not-below}
 use Rattle.plan.proofs.Sizes.{entry-length, stored-length, header-length, rows-more}
+use Rattle.plan.proofs.Turns.{laid-ahead}
 use Rattle.writer.proofs.Planned.{PlannedBy, length-weights}
 use Rattle.promises.proofs.Said.{alignment-said, added-small}
 
@@ -70,10 +71,6 @@ entries-fit k a es can all = by (adds a (saidIn es)) refl
 abbrev FitsDrawn : Drawn → Type 0
 FitsDrawn t = Short (t .name) × FitsShape (t .parts .shape) × Within 4 (t .parts .kind)
 
-rest-laid : (o : ℕ) (rest : Layout) → Fits ≡ laidOf (ahead o rest) → Fits ≡ laidOf rest
-rest-laid o (laidOut offsets laid) e = e
-rest-laid o (refusedAt w i) e = e
-
 not-refused : {w i : ℕ} → Fits ≡ NotLaid w i → ⊥
 not-refused e = let z : _≡_ {A = ℕ} 0 1 = cc in omega arith
 
@@ -90,7 +87,7 @@ weights-fit a laid i (t ∷ ts) low fits all =
     by (At o s after) e next =
         let low-fits : Within 8 (laid .next) = omega arith in
         let p = placed-by a laid (lengths (t .parts .shape)) (t .parts .kind) e in
-        let rest = rest-laid o (layoutFrom a after (suc i) (map pieceOf ts)) (fits ∙ ap laidOf (layout-goes-on a laid i (pieceOf t) (map pieceOf ts) e)) in
+        let rest = fits ∙ ap laidOf (layout-goes-on a laid i (pieceOf t) (map pieceOf ts) e) ∙ laid-ahead o (layoutFrom a after (suc i) (map pieceOf ts)) in
         let others : Fits ≡ laidOf (layoutFrom a (laidWith a laid t) (suc i) (map pieceOf ts)) = subst (λ (l : Laid). Fits ≡ laidOf (layoutFrom a l (suc i) (map pieceOf ts))) (p .then) rest in (
           record {
             name = all .0 .0;

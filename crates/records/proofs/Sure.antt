@@ -4,7 +4,7 @@ use mathlib.Core.Path.{_≡_, refl, sym, ap, subst}
 use mathlib.Core.List.{List, map}
 use mathlib.Core.Bool.{Bool, true, false}
 use native.Mathlib.Omega.{arith}
-use lib.ListN.{length, take, drop, length-take}
+use lib.ListN.{length, take, drop, length-take, length-map}
 use lib.Dec.{leb, eqb, ltb}
 use borrow.Author.Tests.{leb-true, ltb-true, eqb-true}
 use Rattle.fields.specs.Back.{Along, All, Byte, Sure}
@@ -13,7 +13,7 @@ use Rattle.fields.specs.Choice.{if_then_else_}
 use Rattle.fields.specs.Each.{each, times}
 use Rattle.fields.specs.Reading.{Reading, done, refuse, place, known, accepted, run, _>>=_}
 use Rattle.records.specs.Format.{value, lengths, sizeWidth, size, textLooking, text, isWord, alignmentKey, tokenizerKey, keyOf, key, type, scalarWidth, scalarOf, valueOf, array, depth, entry, lengthAt, lengthsOf, shape, stored, tensor, totalOf}
-use Rattle.fields.proofs.Sure.{sure-then, sure-done, sure-refuse, sure-here, sure-mark, sure-check, sure-if, sure-each, sure-field, sure-number, sure-run, items-again, all-map, length-map, sure-so, along-map, map-through}
+use Rattle.fields.proofs.Sure.{sure-then, sure-done, sure-refuse, sure-here, sure-mark, sure-check, sure-if, sure-each, sure-field, sure-number, sure-run, items-again, all-map, sure-so, along-map, map-through}
 use Rattle.kinds.specs.Shape.{greatest, productOf, productsFit, sizeFits}
 use Rattle.kinds.specs.Table.{knownKind}
 use Rattle.records.specs.Contents.{Named, named, noted, typeOf, bytesAt, scalarBits, saidOf, enteredOf, namedOf, notedOf, weightOf, Within, Short, FitsScalar, FitsSaid, FitsEntry, FitsLength, FitsShape, FitsTensor, totalWith}
@@ -102,7 +102,7 @@ module _ (k : Dialect) (s : List ℕ) (bytes : All Byte s) where
   array-sure (suc d) o p =
       sure-here _ (sure-then (sure-type k s p) (λ t q i. sure-then (sure-size q) (λ n r h. sure-here _
       (sure-then (sure-run (sure-each _ _ (λ z u. said-sure d (array-sure d) p t u i) n tt r)) (λ l u g. sure-done
-      (rw (items-again (saidOf (suc d) k s) (valueOf (array d k) k 0 t) n s r (items-anywhere d k p t n s r (g .1)), length-map (saidOf (suc d) k s) l, g .0 .0)
+      (rw (items-again (saidOf (suc d) k s) (valueOf (array d k) k 0 t) n s r (items-anywhere d k p t n s r (g .1)), length-map l (saidOf (suc d) k s), g .0 .0)
       (omega arith, i, h, all-map (λ c. (typeOf c ≡ t) × FitsSaid (suc d) k c) (saidOf (suc d) k s) (λ v f. (f .typed, f .fits)) l (g .0 .1))))))))
 
   pub sure-value : (p : ℕ) → Sure s (value k) p (λ v q. FitsSaid (suc depth) k (saidOf (suc depth) k s v))

@@ -3,7 +3,8 @@ use Prim.Native.Nat.{ℕ, _≤_}
 use mathlib.Core.Path.{_≡_, refl, sym, ap, _∙_}
 use mathlib.Core.List.{List, [], _∷_, _++_, map}
 use native.Mathlib.Omega.{arith}
-use lib.ListN.{length, take, drop, length-take}
+use lib.ListN.{length, take, drop, length-take, length-map}
+use lib.Seq.{take-at}
 use Rattle.fields.specs.Each.{filled}
 use Rattle.fields.specs.Reading.{Answer, accepted, refused, seen}
 use Rattle.fields.specs.declared.Limits.{Limits}
@@ -18,11 +19,6 @@ use Rattle.header.proofs.Counted.{counted}
 use Rattle.tensor_records.specs.declared.TensorRecord.{TensorRecord}
 use Rattle.tensor_records.specs.Records.{filledFrom, tensorsIn, tensorRecord, listingOf}
 use Rattle.tensor_records.proofs.Filled.{none-filled}
-
--- the rows of some tensors, taken off a table that begins with them
-taken : (l : List Tensor) (rest : List (List ℕ)) → take (length l) (map tensorRow l ++ rest) ≡ map tensorRow l
-taken [] rest = refl
-taken (t ∷ l) rest = ap (λ (k : List (List ℕ)). tensorRow t ∷ k) (taken l rest)
 
 -- as many records as there are tensors
 from-rows : (ys : List TensorRecord) (l : List Tensor) → length l ≤ length ys → filledFrom ys (map tensorRow l) ≡ map tensorRecord l ++ drop (length l) ys
@@ -39,7 +35,7 @@ by-answer ys rs (FoundHeader h) (accepted w q) many e =
     let n : h .tensors ≡ length (w .tensors) = ap (λ (k : Header). k .tensors) same ∙ sym (c .0) in
     let fits : length (w .tensors) ≤ length ys = omega (arith, c .0, c .1) in
     ap (λ (m : ℕ). filledFrom ys (take m (map tensorRow (w .tensors) ++ drop (length (w .tensors)) rs))) n
-    ∙ ap (filledFrom ys) (taken (w .tensors) (drop (length (w .tensors)) rs)) ∙ from-rows ys (w .tensors) fits
+    ∙ ap (filledFrom ys) (take-at (map tensorRow (w .tensors)) (drop (length (w .tensors)) rs) (length (w .tensors)) (length-map (w .tensors) tensorRow)) ∙ from-rows ys (w .tensors) fits
 by-answer ys rs (FoundHeader h) (refused n p) many e = let z : _≡_ {A = ℕ} 0 1 = cc in absurd (omega arith)
 by-answer ys rs (NoHeader n p) (accepted w q) many e = let z : _≡_ {A = ℕ} 0 1 = cc in absurd (omega arith)
 by-answer ys rs (NoHeader n p) (refused m q) many e = none-filled ys

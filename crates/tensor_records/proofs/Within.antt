@@ -1,7 +1,7 @@
 -- A table of which only the first part is lent to a reader is filled as if it had been lent whole, with room for as many as the part has. Assumes nothing.
 use Prim.Native.Nat.{ℕ, zero, suc, _≤_, min}
 use mathlib.Core.Path.{_≡_, refl, sym, ap, _∙_}
-use mathlib.Core.List.{List, [], _∷_, _++_, map}
+use mathlib.Core.List.{List, [], _∷_, _++_, map, append-assoc}
 use native.Mathlib.Omega.{arith}
 use lib.ListN.{length, take, drop, take-append-drop, length-take}
 use Rattle.fields.specs.Ceilings.{under}
@@ -13,10 +13,6 @@ use Rattle.header.specs.Format.{header, Whole}
 use Rattle.header.specs.Answers.{asHeader, wholeOf}
 use Rattle.header.specs.declared.HeaderRead.{HeaderRead}
 use Rattle.header.proofs.Counted.{counted}
-
-append-assoc : {B : Type 0} (a b c : List B) → (a ++ b) ++ c ≡ a ++ (b ++ c)
-append-assoc [] b c = refl
-append-assoc (x ∷ a) b c = ap (λ l. x ∷ l) (append-assoc a b c)
 
 -- what is left of a part, and what follows the part
 dropped : {B : Type 0} (rs : List B) (k d : ℕ) → k ≤ d → drop k (take d rs) ++ drop d rs ≡ drop k rs

@@ -7,16 +7,15 @@ use native.Mathlib.Nat.{sub-zero}
 use native.Mathlib.Omega.{arith}
 use lib.ListN.{length, take, drop, length-append}
 use Rattle.fields.specs.Back.{got}
-use Rattle.fields.specs.Bytes.{bytesOf, rows}
+use Rattle.fields.specs.Bytes.{rows}
 use Rattle.fields.specs.Choice.{if_then_else_}
 use Rattle.fields.specs.Each.{times}
 use Rattle.fields.specs.Order.{before}
 use Rattle.fields.specs.Reading.{Answer, accepted, refused, run, isAccepted}
-use Rattle.fields.proofs.Bytes.{length-bytesOf}
 use Rattle.fields.proofs.Sure.{sure-each, whatever}
-use Rattle.fields.proofs.Turns.{times-accepted, times-ends}
+use Rattle.fields.proofs.Turns.{times-accepted, times-got, times-ends}
 use Rattle.records.specs.Contents.{Entered, typeBytes, textBytes, saidBytes, entryBytes, insideOf}
-use Rattle.records.specs.Format.{sizeWidth, scalarWidth, depth, alignmentKey}
+use Rattle.records.specs.Format.{sizeWidth, depth, alignmentKey}
 use Rattle.records.specs.declared.Dialect.{Dialect}
 use Rattle.plan.specs.Header.{heard, inserted, enteredIn, alignmentEntry}
 use Rattle.sheet.specs.Format.{Line, value, metadata}
@@ -28,8 +27,8 @@ use Rattle.sheet.proofs.Many.{key-stands}
 use Rattle.sheet.proofs.Parts.{entry-told}
 use Rattle.sheet.proofs.Steps.{entry-yes}
 use Rattle.writer.specs.Output.{comingBefore}
-use Rattle.writer.proofs.Rows.{got-turn, rows-append, Split, split}
-use Rattle.plan.proofs.Sizes.{type-length, text-length}
+use Rattle.writer.proofs.Rows.{rows-append, Split, split}
+use Rattle.plan.proofs.Drafts.{added-length}
 
 -- the entry at a place whose parts are x, and which ends at q
 pub record EntryThere (s : List ℕ) (from : ℕ) (x : EntryParts) (q : ℕ) : Type 0 where
@@ -38,10 +37,6 @@ pub record EntryThere (s : List ℕ) (from : ℕ) (x : EntryParts) (q : ℕ) : T
   pub key : insideOf s (x .key) ≡ what .entered .key
   pub ends : To q ≡ stepOf (run (value q (x .form)) s (x .value))
   pub bytes : (k : Dialect) {b : List ℕ} → b ≡ insideOf s (x .key) → textBytes k b ++ typeBytes k (x .form) ++ saidBytes (suc depth) k (heard (run (value q (x .form)) s (x .value))) ≡ entryBytes k (what .entered)
-
--- how many bytes a key, a type and a value are
-pub entry-size : (k : Dialect) (b : List ℕ) (t : ℕ) (l : List ℕ) → length (textBytes k b ++ typeBytes k t ++ l) ≡ sizeWidth k + length b + 4 + length l
-entry-size k b t l = length-append (textBytes k b ++ typeBytes k t) l ∙ rw (length-append (textBytes k b) (typeBytes k t), text-length k b, type-length k t)
 
 module _ (s : List ℕ) (from : ℕ) where
   entry-bytes : (e : Line) (q : ℕ) → accepted e q ≡ run metadata s from → (k : Dialect)
@@ -84,7 +79,7 @@ module _ (s : List ℕ) (n : ℕ) where
   module _ {from i : ℕ} (h : Passed s n from i) where
     module _ (below : i < n) {e : Line} {q : ℕ} (is : accepted e q ≡ run metadata s from) where
       turned : comingBefore (got (run (times n metadata) s 1)) ≡ i + comingBefore (e ∷ got (run (times (n - (i + 1)) metadata) s q))
-      turned = h .count ∙ ap (λ l. i + comingBefore l) (got-turn metadata s from n i below is (h .all))
+      turned = h .count ∙ ap (λ l. i + comingBefore l) (times-got metadata s from n i below is (h .all))
 
       pub passed-here : before alignmentKey (e .entered .key) ≡ true → i ≡ comingBefore (got (run (times n metadata) s 1))
       passed-here t = sym (turned ∙ coming-here i e (got (run (times (n - (i + 1)) metadata) s q)) t)
@@ -128,12 +123,6 @@ inserted-rows enc a es =
     append-assoc (rows enc (map enteredIn (take (comingBefore es) es))) (enc (alignmentEntry a)) (rows enc (map enteredIn (drop (comingBefore es) es)))
     ∙ sym (ap (rows enc) (inserted-between a es) ∙ rows-append enc (map enteredIn (take (comingBefore es) es)) (alignmentEntry a ∷ map enteredIn (drop (comingBefore es) es)))
 
-alignment-size : (k : Dialect) (a : ℕ) → length (entryBytes k (alignmentEntry a)) ≡ sizeWidth k + 25
-unfolding entryBytes saidBytes scalarWidth
-alignment-size k a =
-    let e = entry-size k alignmentKey 4 (bytesOf (k .big) 4 a) in
-    omega (arith, e, length-bytesOf (k .big) 4 a)
-
 three-sizes : (x y z : List ℕ) {l : List ℕ} {m : ℕ} → x ++ y ++ z ≡ l → length y ≡ m → length l ≡ length x + m + length z
 three-sizes x y z {l} {m} e i = sym (ap length e) ∙ length-append (x ++ y) z ∙ ap (λ n. n + length z) (length-append x y ∙ ap (λ n. length x + n) i)
 
@@ -172,7 +161,7 @@ module _ (k : Dialect) (a : ℕ) (s : List ℕ) (total : ℕ) (all : isAccepted 
         lower = ap isAccepted (sym (h .lower));
         upper = ap isAccepted (sym (h .upper));
         bytes = b;
-        size = three-sizes (written k r) (entryBytes k (alignmentEntry a)) (written k u) b (alignment-size k a);
+        size = three-sizes (written k r) (entryBytes k (alignmentEntry a)) (written k u) b (added-length k a);
       }
 
   pub apart-mid : (n : ℕ) → n ≡ comingBefore (got (run (times total metadata) s 1)) → (q : ℕ) × Apart k a s total n q

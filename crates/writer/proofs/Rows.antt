@@ -10,9 +10,9 @@ use borrow.Rule.Slice.PartMut.{midOf, putMid}
 use Rattle.fields.specs.Back.{got}
 use Rattle.fields.specs.Bytes.{rows, Wrote}
 use Rattle.fields.specs.Each.{each, times}
-use Rattle.fields.specs.Reading.{Reading, done, Answer, accepted, refused, run, andThen, isAccepted}
+use Rattle.fields.specs.Reading.{Reading, done, Answer, accepted, refused, run, isAccepted}
 use Rattle.fields.proofs.Laws.{goes-on, bind-inv}
-use Rattle.fields.proofs.Turns.{each-more, times-accepted, times-ends, times-never}
+use Rattle.fields.proofs.Turns.{times-accepted, times-got, times-ends, times-never}
 use Rattle.sheet.specs.Sheet.{stepOf}
 use Rattle.sheet.specs.declared.Stepped.the-variants.{To}
 use Rattle.sheet.proofs.Steps.{steps-on}
@@ -33,18 +33,6 @@ pub rows-append : {C : Type 0} (enc : C → List ℕ) (l m : List C) → rows en
 unfolding rows
 rows-append enc [] m = refl
 rows-append enc (c ∷ l) m = rw (rows-append enc l m, append-assoc)
-
-got-cons : {A : Type 0} (a : A) (r : Answer (List A)) → isAccepted (andThen r (λ l p. accepted (a ∷ l) p)) ≡ true → got (andThen r (λ l p. accepted (a ∷ l) p)) ≡ a ∷ got r
-unfolding andThen
-got-cons a (accepted l p) h = refl
-got-cons a (refused n p) h = let z : _≡_ {A = ℕ} 0 1 = cc in absurd (omega arith)
-
--- the first of those that are left, and the others
-pub got-turn : {A : Type 0} (m : Reading A) (s : List ℕ) (at n i : ℕ) → i < n → {a : A} {q : ℕ} → accepted a q ≡ run m s at → isAccepted (run (times (n - i) m) s at) ≡ true
-    → got (run (times (n - i) m) s at) ≡ a ∷ got (run (times (n - (i + 1)) m) s q)
-got-turn m s at n i below {a} {q} e all =
-    let t = each-more {S = Unit {0}} (λ z. m) (λ z a. z) s at n i tt below e in
-    ap got t ∙ got-cons a (run (times (n - (i + 1)) m) s q) (rw t at all)
 
 -- the record that stands at a place, and that there is room for it
 pub record Next {A : Type 0} (m : Reading A) (enc : A → List ℕ) (s : List ℕ) (from done : ℕ) (out : List ℕ) : Type 0 where
@@ -73,7 +61,7 @@ module _ {A : Type 0} (m : Reading A) (enc : A → List ℕ) (s : List ℕ) (at 
     -- the turn's own row
     turned : i < n → {a : A} {q : ℕ} → accepted a q ≡ run m s from → rows enc (got (run (times (n - i) m) s from)) ≡ enc a ++ rows enc (got (run (times (n - (i + 1)) m) s q))
     unfolding rows
-    turned below e = ap (rows enc) (got-turn m s from n i below e (h .all))
+    turned below e = ap (rows enc) (times-got m s from n i below e (h .all))
 
     pub left-room : i < n → {a : A} {q : ℕ} → accepted a q ≡ run m s from → length (rows enc (got (run (times n m) s at))) ≤ length o → done + length (enc a) ≤ length out
     left-room below {a} {q} e room =

@@ -1,6 +1,6 @@
 -- Tensors written one after the other, each at the offset where the one before it left off. Assumes nothing.
 use Prim.Native.Nat.{ℕ, suc, _+_, _-_, _≤_, _<_}
-use mathlib.Core.Path.{_≡_, refl, sym, ap, _∙_}
+use mathlib.Core.Path.{_≡_, sym, ap, _∙_}
 use mathlib.Core.Bool.{true}
 use mathlib.Core.List.{List, _∷_, _++_, map}
 use native.Mathlib.Omega.{arith}
@@ -12,10 +12,10 @@ use Rattle.fields.specs.Back.{got}
 use Rattle.fields.specs.Bytes.{rows, Wrote}
 use Rattle.fields.specs.Each.{times}
 use Rattle.fields.specs.Reading.{accepted, refused, run, isAccepted}
-use Rattle.fields.proofs.Turns.{times-accepted, times-never, times-ends}
+use Rattle.fields.proofs.Turns.{times-accepted, times-got, times-never, times-ends}
 use Rattle.layout.specs.declared.Laid.{Laid}
 use Rattle.layout.specs.declared.Placed.the-variants.{At, Refused}
-use Rattle.layout.specs.Layout.{Layout, laidOut, refusedAt, ahead, nothingLaid, placeOf, layoutFrom, layoutOf}
+use Rattle.layout.specs.Layout.{nothingLaid, placeOf, layoutFrom, layoutOf}
 use Rattle.layout.proofs.Places.{layout-stops, layout-goes-on, placed-by}
 use Rattle.records.specs.declared.Dialect.{Dialect}
 use Rattle.records.specs.Format.{sizeWidth, lengths}
@@ -27,8 +27,8 @@ use Rattle.plan.specs.declared.LaidOut.the-variants.{Fits}
 use Rattle.plan.specs.Header.{pieceOf, weightAt, laidWith, weightsFrom}
 use Rattle.plan.specs.Plan.{laidOf}
 use Rattle.plan.proofs.Sizes.{tensor-length}
+use Rattle.plan.proofs.Turns.{laid-ahead}
 use Rattle.writer.specs.Output.{shapeSize}
-use Rattle.writer.proofs.Rows.{got-turn}
 use Rattle.writer.proofs.Loops.{Part, part-start, part-turn, part-end, part-room}
 
 -- the name of a tensor is what stands at its place
@@ -59,10 +59,6 @@ module _ (k : Dialect) (a : ℕ) (s : List ℕ) (m : ℕ) where
       let z : m - 0 ≡ m = omega arith in
       record { below = omega arith; all = rw z all; fits = rw z fits; part = rw z (part-start o (rows (tensorBytes k) (weightsFrom a nothingLaid (got (run (times m tensor) s first))))) }
 
-  ahead-fits : (o : ℕ) (l : Layout) → Fits ≡ laidOf (ahead o l) → Fits ≡ laidOf l
-  ahead-fits o (laidOut os x) e = refl
-  ahead-fits o (refusedAt w i) e = e
-
   module _ {o out : List ℕ} {at from : ℕ} {laid : Laid} {i : ℕ} {whole : List ℕ} (g : Going o out at from laid i whole) where
     pub going-none : i < m → {w p : ℕ} → refused w p ≡ run tensor s from → ⊥
     going-none below e = times-never tensor s from m i below e (g .all)
@@ -77,7 +73,7 @@ module _ (k : Dialect) (a : ℕ) (s : List ℕ) (m : ℕ) where
 
     module _ (below : i < m) {t : Drawn} {q : ℕ} (e : accepted t q ≡ run tensor s from) where
       next-left : leftFrom i from ≡ t ∷ leftFrom (i + 1) q
-      next-left = got-turn tensor s from m i below e (g .all)
+      next-left = times-got tensor s from m i below e (g .all)
 
       going-refused : {w : ℕ} → placeOf a laid (lengths (t .parts .shape)) (t .parts .kind) ≡ Refused w → ⊥
       going-refused r =
@@ -105,7 +101,7 @@ module _ (k : Dialect) (a : ℕ) (s : List ℕ) (m : ℕ) where
           record {
             below = omega arith;
             all = times-accepted tensor s from m i below e (g .all);
-            fits = ahead-fits offset (layoutFrom a after (suc i) (map pieceOf (leftFrom (i + 1) q))) f ∙ ap (λ j. laidOf (layoutFrom a after j (map pieceOf (leftFrom (i + 1) q)))) (sym (add-one i));
+            fits = f ∙ laid-ahead offset (layoutFrom a after (suc i) (map pieceOf (leftFrom (i + 1) q))) ∙ ap (λ j. laidOf (layoutFrom a after j (map pieceOf (leftFrom (i + 1) q)))) (sym (add-one i));
             part = rw (p .then) (part-turn _ _ ys n (g .part) bytes-left (rw (p .offset) at w) same);
           }
 

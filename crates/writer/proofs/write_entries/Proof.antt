@@ -14,7 +14,8 @@ use Rattle.records.specs.Contents.{entryBytes}
 use Rattle.plan.specs.Header.{enteredIn}
 use Rattle.sheet.specs.Format.{metadata}
 use Rattle.sheet.proofs.Steps.{entry-no}
-use Rattle.writer.proofs.Entries.{EntryThere, entry-there, entry-size}
+use Rattle.plan.proofs.Sizes.{entry-size}
+use Rattle.writer.proofs.Entries.{EntryThere, entry-there}
 use Rattle.writer.proofs.Rows.{wrote-as, rows-map, Left, left-start, left-room, left-turn, left-end}
 use Rattle.writer.proofs.write_entries.Statement.{statement}
 use Rattle.writer.proofs.write_entries.Tie as tie
