@@ -1,18 +1,27 @@
 -- The size of a tensor by its tests, one after the other: its kind, the product of its shape, its bytes.
 -- Assumes nothing.
-use Prim.Native.Nat.{ℕ, _*_, _/_, _<_}
-use mathlib.Core.Path.{_≡_}
-use mathlib.Core.Bool.{true}
+use Prim.Native.Nat.{ℕ, _*_, _/_, _≤_, _<_}
+use mathlib.Core.Path.{_≡_, sym}
+use mathlib.Core.Bool.{true, false}
 use mathlib.Core.List.{List}
 use native.Mathlib.Omega.{arith}
+use native.Mathlib.Nat.{mul-comm}
 use lib.Dec.{leb}
-use borrow.Author.Tests.{lt-ltb}
+use borrow.Author.Tests.{leb-true, lt-ltb}
 use Rattle.kinds.specs.declared.Block.{Block}
 use Rattle.kinds.specs.declared.Whole.the-variants.{Fits, Over}
 use Rattle.kinds.specs.declared.Measure.the-variants.{Bytes, Refused}
 use Rattle.kinds.specs.Table.{blockOf, knownKind}
 use Rattle.kinds.specs.Shape.{greatest, productOf, productsFit, wholeOf, measureOf}
 use Rattle.kinds.proofs.Products.{fitted, answered, refused}
+
+-- n numbers in blocks of the kind k, of which a is one: whether their bytes fit
+module _ (n k : ℕ) {a : Block} (is : a ≡ blockOf k) where
+  pub many-fit : {m : ℕ} → Fits m ≡ fitted (a .bytes * n) → true ≡ leb (n * blockOf k .bytes) greatest
+  many-fit e = rw (mul-comm, ← is) (sym (answered (leb (a .bytes * n) greatest) (a .bytes * n) e .0))
+
+  pub many-not : Over ≡ fitted (a .bytes * n) → false ≡ leb (n * blockOf k .bytes) greatest
+  many-not e = rw (mul-comm, ← is) (sym (refused (leb (a .bytes * n) greatest) (a .bytes * n) e))
 
 -- a is the block of the kind k
 module _ (s : List ℕ) (k : ℕ) {a : Block} (is : a ≡ blockOf k) where
@@ -35,13 +44,15 @@ pub record Passed (s : List ℕ) (k : ℕ) (a : Block) (n : ℕ) : Type 0 where
 
 module _ {s : List ℕ} {k : ℕ} {a : Block} {n : ℕ} (passed : Passed s k a n) where
   -- then the bytes do not fit, or they do
-  pub no-size : Over ≡ fitted (n * a .bytes) → Refused 14 ≡ measureOf s k
+  pub no-size : false ≡ leb (n * blockOf k .bytes) greatest → Refused 14 ≡ measureOf s k
   no-size f =
       let h = answered (productsFit s) (productOf s) (passed .fits) in
-      rw (known s k (passed .is) (passed .some), h .0, h .1, refused (leb (n * blockOf k .bytes) greatest) (n * blockOf k .bytes) (rw (passed .is) at f))
+      rw (known s k (passed .is) (passed .some), h .0, h .1, ← f)
 
-  pub sized : {b : ℕ} → Fits b ≡ fitted (n * a .bytes) → Bytes n (b / a .numbers) ≡ measureOf s k
+  pub bytes-fit : true ≡ leb (n * blockOf k .bytes) greatest → n * a .bytes ≤ greatest
+  bytes-fit f = rw (passed .is) (leb-true _ _ (sym f))
+
+  pub sized : true ≡ leb (n * blockOf k .bytes) greatest → Bytes n (n * a .bytes / a .numbers) ≡ measureOf s k
   sized f =
       let h = answered (productsFit s) (productOf s) (passed .fits) in
-      let g = answered (leb (n * blockOf k .bytes) greatest) (n * blockOf k .bytes) (rw (passed .is) at f) in
-      rw (known s k (passed .is) (passed .some), h .0, h .1, g .0, g .1, passed .is)
+      rw (known s k (passed .is) (passed .some), h .0, h .1, ← f, passed .is)

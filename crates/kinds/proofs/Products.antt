@@ -5,7 +5,7 @@ use mathlib.Core.Path.{_≡_, refl, _∙_}
 use mathlib.Core.Bool.{Bool, true, false}
 use mathlib.Core.List.{List, [], _∷_}
 use native.Mathlib.Omega.{arith}
-use native.Mathlib.Nat.{one-mul, le-div-iff-mul-le, div-lt-iff-lt-mul}
+use native.Mathlib.Nat.{one-mul, mul-le-mul-left, le-div-iff-mul-le, div-lt-iff-lt-mul}
 use lib.Dec.{leb}
 use lib.ListN.{getD}
 use mir.Syntax.{w64}
@@ -26,6 +26,16 @@ too-great a b pos h = div-lt-iff-lt-mul pos .0 h
 
 pub small-enough : (a b : ℕ) → 0 < b → a ≤ greatest / b → a * b ≤ greatest
 small-enough a b pos h = le-div-iff-mul-le pos .0 h
+
+-- it fits where a factor does and the other is 0 or 1
+pub small-factor : (a b : ℕ) → a ≤ greatest → b < 2 → a * b ≤ greatest
+small-factor a b fits h = let l : b ≤ 1 = omega arith in omega (arith, mul-le-mul-left a l)
+
+-- few numbers fit in small blocks
+pub few-fit : (n b : ℕ) → n < 2 ^ 55 → b < 512 → n * b ≤ greatest
+few-fit n b few small =
+    let h : b ≤ 511 = omega arith in
+    omega (arith, mul-le-mul-left n h)
 
 -- what was answered tells how the test went
 pub answered : (b : Bool) (n : ℕ) {m : ℕ} → Fits m ≡ (if b then Fits n else Over) → (b ≡ true) × (n ≡ m)

@@ -1,76 +1,84 @@
--- The table by its columns: the sizes are one list, and the numbers are alike over a range of kinds, as a test shows that the checker computes row after row.
+-- The table row after row: a test over all of its kinds that the checker computes. It shows what a match leaves over, that what is written is known, and that blocks are small.
 -- Assumes nothing.
-use mathlib.Core.Path.{_≡_, refl, sym, _∙_}
-use mathlib.Core.Bool.{Bool, true, false}
-use mathlib.Core.List.{List, map}
-use Prim.Native.Nat.{ℕ, zero, suc, _+_, _-_, _≤_, _<_}
+use mathlib.Core.Path.{_≡_, refl, sym}
+use mathlib.Core.Bool.{Bool, true, false, _&&_, _||_}
+use mathlib.Core.List.{List, [], _∷_}
+use mathlib.Core.Logic.{inl, inr}
+use Prim.Native.Nat.{ℕ, zero, suc, _≤_, _<_}
 use native.Mathlib.Omega.{arith}
-use lib.Dec.{T, leb, ltb, eqb, leb→le, eqb→eq}
-use lib.ListN.{length, getD, List·getD-eq-default, List·getD-map}
+use lib.Dec.{T, ltb, ltb→lt, eqb, eqb→eq}
+use lib.ListN.{length, List·getD-eq-default}
+use mir.Val.{hasKey}
+use mir.Facts.{and-yes, or-yes}
+use types.Run.{OneOf, hit}
 use borrow.Author.Tests.{ltb-true, ltb-false}
 use Rattle.kinds.specs.declared.Block.{Block}
 use Rattle.kinds.specs.Table.{block, noKind, kindTable, blockOf, knownKind, writtenKind}
 
-abbrev both : Bool → Bool → Bool
-both true b = b
-both false b = false
-
-both-left : (a b : Bool) → T (both a b) → T a
-both-left true b t = tt
-both-left false b t = t
-
-both-right : (a b : Bool) → T (both a b) → T b
-both-right true b t = t
-both-right false b t = absurd t
-
 -- the test f passes at each number below n
 abbrev every : (ℕ → Bool) → ℕ → Bool
 every f zero = true
-every f (suc n) = both (f 0) (every (λ k. f (suc k)) n)
+every f (suc n) = f 0 && every (λ k. f (suc k)) n
 
 -- so it passes at each of them by itself
 at : (f : ℕ → Bool) (n : ℕ) → T (every f n) → (k : ℕ) → k < n → T (f k)
 at f zero t k h = absurd (omega arith)
-at f (suc n) t zero h = both-left (f 0) (every (λ k. f (suc k)) n) t
-at f (suc n) t (suc k) h = at (λ k. f (suc k)) n (both-right (f 0) (every (λ k. f (suc k)) n) t) k (omega arith)
-
--- k is a kind of the table, and m is the number of its row
-pub record Row (k m : ℕ) : Type 0 where
-  pub within : k < length kindTable
-  pub numbers : m ≡ blockOf k .numbers
-
--- the kinds from i up to e are in the table, with n numbers in each row
-module _ (i e n : ℕ) where
-  abbrev alike : ℕ → Bool
-  alike k = eqb n (blockOf (i + k) .numbers)
-
-  pub range : T (both (leb e (length kindTable)) (every alike (e - i))) → {k m : ℕ} → i ≤ k → k < e → m ≡ n → Row k m
-  range t {k} from below is =
-      let inside : e ≤ length kindTable = leb→le e (length kindTable) (both-left (leb e (length kindTable)) (every alike (e - i)) t) in
-      let there : i + (k - i) ≡ k = omega arith in
-      let alike-there = at alike (e - i) (both-right (leb e (length kindTable)) (every alike (e - i)) t) (k - i) (omega arith) in
-      record { within = omega arith; numbers = is ∙ (rw there at (eqb→eq n (blockOf (i + (k - i)) .numbers) alike-there)) }
-
--- the column of sizes
-abbrev pub sizes : List ℕ
-sizes = map (λ a. a .bytes) kindTable
-
-pub bytes-at : (k : ℕ) → getD sizes k 0 ≡ blockOf k .bytes
-unfolding blockOf
-bytes-at k = List·getD-map (λ a. a .bytes) kindTable k noKind
-
--- a size is a number of 16 bits
-pub size-fits : (k : ℕ) → k < length kindTable → getD sizes k 0 ≤ 65535
-size-fits k h = leb→le (getD sizes k 0) 65535 (at (λ n. leb (getD sizes n 0) 65535) (length kindTable) tt k h)
-
--- a block is its two numbers
-pub block-is : {n b : ℕ} (a : Block) → n ≡ a .numbers → b ≡ a .bytes → block n b ≡ a
-block-is a e f = rw (e, f)
+at f (suc n) t zero h = and-yes (f 0) (every (λ k. f (suc k)) n) t .0
+at f (suc n) t (suc k) h = at (λ k. f (suc k)) n (and-yes (f 0) (every (λ k. f (suc k)) n) t .1) k (omega arith)
 
 -- past the table there is no kind
 pub past : (k : ℕ) → length kindTable ≤ k → noKind ≡ blockOf k
 unfolding blockOf
 past k h = sym (List·getD-eq-default kindTable noKind h)
+
+-- whether x is a key of a match's arms
+abbrev keyed : List (List ℕ) → ℕ → Bool
+keyed [] x = false
+keyed (ks ∷ arms) x = hasKey ks x || keyed arms x
+
+-- x is a key of none, as the match tells it after the arms that N speaks of
+abbrev Left : Type 0 → List (List ℕ) → ℕ → Type 0
+Left N [] x = N
+Left N (ks ∷ arms) x = Left (N × (OneOf ks x → ⊥)) arms x
+
+told-before : (arms : List (List ℕ)) (N : Type 0) (x : ℕ) → Left N arms x → N
+told-before [] N x l = l
+told-before (ks ∷ arms) N x l = told-before arms (N × (OneOf ks x → ⊥)) x l .0
+
+not-keyed : (arms : List (List ℕ)) (N : Type 0) (x : ℕ) → Left N arms x → T (keyed arms x) → ⊥
+not-keyed [] N x l t = t
+not-keyed (ks ∷ arms) N x l t =
+    elim (or-yes (hasKey ks x) (keyed arms x) t) [
+      | inl h ↦ told-before arms (N × (OneOf ks x → ⊥)) x l .1 (hit ks x h)
+      | inr h ↦ not-keyed arms (N × (OneOf ks x → ⊥)) x l h
+    ]
+
+-- a block is its two numbers
+block-is : {n b : ℕ} (a : Block) → n ≡ a .numbers → b ≡ a .bytes → block n b ≡ a
+block-is a e f = rw (e, f)
+
+-- where each kind of the table is a key, what is left over is no kind
+module _ (arms : List (List ℕ)) where
+  abbrev none : ℕ → Bool
+  none k = eqb 0 (blockOf k .numbers) && eqb 0 (blockOf k .bytes)
+
+  abbrev covered : ℕ → Bool
+  covered k = keyed arms k || none k
+
+  covered-by : (k : ℕ) → Left (Unit {0}) arms k → T (covered k) → noKind ≡ blockOf k
+  covered-by k l t =
+      elim (or-yes (keyed arms k) (none k) t) [
+        | inl h ↦ absurd (not-keyed arms (Unit {0}) k l h)
+        | inr h ↦ let e = and-yes (eqb 0 (blockOf k .numbers)) (eqb 0 (blockOf k .bytes)) h in
+            block-is (blockOf k) (eqb→eq 0 (blockOf k .numbers) (e .0)) (eqb→eq 0 (blockOf k .bytes) (e .1))
+      ]
+
+  left-over-by : (t : Bool) (k : ℕ) → ltb k (length kindTable) ≡ t → T (every covered (length kindTable)) → Left (Unit {0}) arms k → noKind ≡ blockOf k
+  left-over-by true k i c l = covered-by k l (at covered (length kindTable) c k (ltb-true k (length kindTable) i))
+  left-over-by false k i c l = past k (ltb-false k (length kindTable) i)
+
+  pub left-over : T (every covered (length kindTable)) → (k : ℕ) → Left (Unit {0}) arms k → noKind ≡ blockOf k
+  left-over c k l = left-over-by (ltb k (length kindTable)) k refl c l
 
 -- a kind that is written is known: row after row, and past the table none is written
 abbrev follows : Bool → Bool → Bool
@@ -96,3 +104,12 @@ written-by false k i e =
 
 pub written-known : (k : ℕ) → writtenKind k ≡ true → knownKind k ≡ true
 written-known k e = written-by (ltb k (length kindTable)) k refl e
+
+-- no block takes 512 bytes
+small-by : (t : Bool) (k : ℕ) → ltb k (length kindTable) ≡ t → blockOf k .bytes < 512
+unfolding blockOf
+small-by true k i = ltb→lt (blockOf k .bytes) 512 (at (λ n. ltb (blockOf n .bytes) 512) (length kindTable) tt k (ltb-true k (length kindTable) i))
+small-by false k i = let none = past k (ltb-false k (length kindTable) i) in rw (← none) (omega arith)
+
+pub small-block : (k : ℕ) → blockOf k .bytes < 512
+small-block k = small-by (ltb k (length kindTable)) k refl

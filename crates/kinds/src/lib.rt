@@ -1,9 +1,9 @@
 // The kinds of tensor data, the size of a tensor, and the file type's table.
 ghost use mathlib.Core.Path.{_≡_};
-ghost use Prim.Native.Nat.{_*_};
+ghost use Prim.Native.Nat.{_*_, _/_, _≤_, _<_};
 ghost use lib.Dec.{leb};
 ghost use Rattle.fields.specs.Choice.{if_then_else_};
-ghost use Rattle.kinds.specs.Table.{blockOf, knownKind, writtenKind};
+ghost use Rattle.kinds.specs.Table.{block, blockOf, knownKind, writtenKind};
 ghost use Rattle.kinds.specs.Shape.{greatest, wholeOf, measureOf};
 ghost use Rattle.kinds.specs.declared.Whole.the-variants.{Fits, Over};
 ghost use Rattle.kinds.specs.FileType.{fileTypeOf};
@@ -32,72 +32,53 @@ pub enum FileKind {
     Unknown,
 }
 
-// The bytes of a block, by kind: in 16 bits each, since the table is laid out anew at each use.
-const TYPE_SIZES: [u16; 40] = [
-    4,
-    2,
-    18,
-    20,
-    0,
-    0,
-    22,
-    24,
-    34,
-    40,
-    84,
-    110,
-    144,
-    176,
-    210,
-    292,
-    66,
-    74,
-    98,
-    50,
-    18,
-    110,
-    82,
-    136,
-    1,
-    2,
-    4,
-    8,
-    8,
-    56,
-    2,
-    0,
-    0,
-    0,
-    54,
-    66,
-    0,
-    0,
-    0,
-    273,
-];
-
 // The greatest number of 64 bits.
 const GREATEST: u64 = 18446744073709551615;
 
-// The block of a kind.
+// A row of the table.
+fn row(numbers: u64, bytes: u64) -> Block
+    ensures { λ r. ⌜ r ≡ block numbers bytes ⌝ }
+{
+    Block { numbers, bytes }
+}
+
+// The block of a kind. Single numbers make the match one look into a table; neighbours in one arm would be a range, which is compared.
 pub fn block_and_type_size(kind: u64) -> Block
     ensures { λ r. ⌜ r ≡ blockOf kind ⌝ }
 {
-    let numbers: u64 = match kind {
-        0..=1 => 1,
-        2..=3 | 6..=9 => 32,
-        4..=5 => 0,
-        10..=39 => 256,
-        _ => {
-            return Block {
-                numbers: 0,
-                bytes: 0,
-            };
-        }
-    };
-    Block {
-        numbers,
-        bytes: TYPE_SIZES[kind as usize] as u64,
+    match kind {
+        0 => row(1, 4),
+        1 => row(1, 2),
+        2 => row(32, 18),
+        3 => row(32, 20),
+        6 => row(32, 22),
+        7 => row(32, 24),
+        8 => row(32, 34),
+        9 => row(32, 40),
+        10 => row(256, 84),
+        11 | 21 => row(256, 110),
+        12 => row(256, 144),
+        13 => row(256, 176),
+        14 => row(256, 210),
+        15 => row(256, 292),
+        16 | 35 => row(256, 66),
+        17 => row(256, 74),
+        18 => row(256, 98),
+        19 => row(256, 50),
+        20 => row(256, 18),
+        22 => row(256, 82),
+        23 => row(256, 136),
+        24 => row(256, 1),
+        25 | 30 => row(256, 2),
+        26 => row(256, 4),
+        27 => row(256, 8),
+        28 => row(256, 8),
+        29 => row(256, 56),
+        31 | 33 | 36 | 38 => row(256, 0),
+        32 | 37 => row(256, 0),
+        34 => row(256, 54),
+        39 => row(256, 273),
+        _ => row(0, 0),
     }
 }
 
@@ -115,12 +96,12 @@ pub fn is_written(kind: u64) -> bool
     0 < block_and_type_size(kind).bytes
 }
 
-// The product of two numbers, where it fits. It is made only after a division has shown that it does.
+// The product of two numbers, where it fits. It is made where one factor is 0 or 1, or after a division has shown that it fits.
 fn times(a: u64, b: u64) -> Whole
     ensures { λ r. ⌜ r ≡ (if leb (a * b) greatest then Fits (a * b) else Over) ⌝ }
 {
-    if b == 0 {
-        return Whole::Fits { value: 0 };
+    if b < 2 {
+        return Whole::Fits { value: a * b };
     }
     if GREATEST / b < a {
         return Whole::Over;
@@ -141,6 +122,27 @@ pub fn product(shape: [u64; 4]) -> Whole
     times(solid, shape[3])
 }
 
+// Whether the bytes of so many numbers of a kind fit 64 bits. No block takes 512 bytes, so of fewer than 2 ^ 55 numbers they do.
+pub fn fits(numbers: u64, kind: u64) -> bool
+    ensures { λ r. ⌜ r ≡ leb (numbers * blockOf kind .bytes) greatest ⌝ }
+{
+    if numbers < 36028797018963968 {
+        return true;
+    }
+    match times(block_and_type_size(kind).bytes, numbers) {
+        Whole::Fits { value: _ } => true,
+        Whole::Over => false,
+    }
+}
+
+// The bytes of so many numbers in such blocks, rounded down: for callers that know that they fit.
+pub fn bytes_in(numbers: u64, block: Block) -> u64
+    requires { ⌜ (numbers * block .bytes ≤ greatest) × (0 < block .numbers) ⌝ }
+    ensures { λ r. ⌜ r ≡ numbers * block .bytes / block .numbers ⌝ }
+{
+    numbers * block.bytes / block.numbers
+}
+
 // The numbers and the bytes of a tensor.
 pub fn size(shape: [u64; 4], kind: u64) -> Measure
     ensures { λ r. ⌜ r ≡ measureOf shape kind ⌝ }
@@ -152,14 +154,13 @@ pub fn size(shape: [u64; 4], kind: u64) -> Measure
     let Whole::Fits { value: numbers } = product(shape) else {
         return Measure::Refused { why: 13 };
     };
-    let Whole::Fits { value: total } = times(numbers, block.bytes) else {
-        return Measure::Refused { why: 14 };
-    };
-    let bytes = total / block.numbers;
-    Measure::Bytes {
-        product: numbers,
-        size: bytes,
+    if fits(numbers, kind) {
+        return Measure::Bytes {
+            product: numbers,
+            size: bytes_in(numbers, block),
+        };
     }
+    Measure::Refused { why: 14 }
 }
 
 // A number of the file type's table.

@@ -210,17 +210,22 @@ stored k = do
   mark aKind t p
   done (record { kind = t; offset = o })
 
--- a tensor, where the products of those before it come to total: its name, shape, kind and offset, and then what must fit
+-- the tensor of what stands at p, after tensors whose products come to total: its products, its size and the new total must fit
+abbrev pub fitting : ℕ → ℕ → Span → Shape → Stored → Reading Tensor
+fitting p total name x y = do
+  check (productsFit (lengths x)) 13 p
+  check (sizeFits (lengths x) (y .kind)) 14 p
+  check (leb (total + productOf (lengths x)) greatest) 15 p
+  done (record { name = name; shape = x; kind = y .kind; offset = y .offset; parameters = productOf (lengths x); size = sizeOf (lengths x) (y .kind) })
+
+-- a tensor, after tensors whose products come to total: its name, shape, kind and offset, and then what must fit
 unfoldable pub tensor : Dialect → ℕ → Reading Tensor
 tensor k total = do
   p ← here
   name ← text k
   x ← shape k
   y ← stored k
-  check (productsFit (lengths x)) 13 p
-  check (sizeFits (lengths x) (y .kind)) 14 p
-  check (leb (total + productOf (lengths x)) greatest) 15 p
-  done (record { name = name; shape = x; kind = y .kind; offset = y .offset; parameters = productOf (lengths x); size = sizeOf (lengths x) (y .kind) })
+  fitting p total name x y
 
 -- the total after a tensor
 abbrev pub totalOf : ℕ → Tensor → ℕ

@@ -5,8 +5,10 @@
 use fields::Limits;
 use fields::Number;
 use fields::Width;
-use kinds::Measure;
+use kinds::Whole;
 ghost use mathlib.Core.Path.{_≡_};
+ghost use mathlib.Core.Bool.{true};
+ghost use mathlib.Core.List.{[]};
 ghost use Prim.Native.Nat.{_+_, _≤_, _<_, _%_, _^_};
 ghost use lib.ListN.{length, take, drop};
 ghost use mir.Syntax.{w64};
@@ -15,6 +17,7 @@ ghost use Rattle.fields.specs.Reading.{run, passed};
 ghost use Rattle.fields.specs.Each.{times};
 ghost use Rattle.fields.specs.Ceilings.{under};
 ghost use Rattle.fields.specs.Value.{widthOf, number, asNumber};
+ghost use Rattle.kinds.specs.Table.{knownKind};
 ghost use Rattle.records.specs.Format as format;
 ghost use Rattle.records.specs.Contents as contents;
 ghost use Rattle.records.specs.Answers.{asWidth, asText, asKey, asPassed, asArray, asValue, asEntry, asShape, asStored, asTensor};
@@ -622,6 +625,43 @@ fn read_stored(s: &[u8], at: usize, dialect: Dialect, limits: Limits) -> StoredR
     StoredRead::Refused { why: 11, place: at }
 }
 
+// The tensor of what was read, where its products, its size and the new total fit.
+fn fitted(
+    at: usize,
+    total: u64,
+    name: Span,
+    shape: Shape,
+    stored: Stored,
+    next: usize,
+) -> TensorRead
+    requires { ⌜ knownKind (stored .kind) ≡ true ⌝ }
+    ensures { λ r. ⌜ asTensor r ≡ run (format.fitting at total name shape stored) [] next ⌝ }
+{
+    let kind = stored.kind;
+    let four = [shape.first, shape.second, shape.third, shape.fourth];
+    let Whole::Fits { value: product } = kinds::product(four) else {
+        return TensorRead::Refused { why: 13, place: at };
+    };
+    if !kinds::fits(product, kind) {
+        return TensorRead::Refused { why: 14, place: at };
+    }
+    if 18446744073709551615 - total < product {
+        return TensorRead::Refused { why: 15, place: at };
+    }
+    let block = kinds::block_and_type_size(kind);
+    TensorRead::Found {
+        tensor: Tensor {
+            name,
+            shape,
+            kind,
+            offset: stored.offset,
+            parameters: product,
+            size: kinds::bytes_in(product, block),
+        },
+        next,
+    }
+}
+
 // A tensor, where the products of those before it come to total.
 pub fn read_tensor(s: &[u8], at: usize, dialect: Dialect, total: u64, limits: Limits) -> TensorRead
     ensures { λ r. ⌜ asTensor r ≡ run (under limits (format.tensor dialect total)) (now (s .entry)) at ⌝ }
@@ -635,28 +675,7 @@ pub fn read_tensor(s: &[u8], at: usize, dialect: Dialect, total: u64, limits: Li
             ShapeRead::Refused { why, place } => TensorRead::Refused { why, place },
             ShapeRead::Found { shape, next: q } => match read_stored(s, q, dialect, limits) {
                 StoredRead::Refused { why, place } => TensorRead::Refused { why, place },
-                StoredRead::Found { stored, next } => {
-                    let four = [shape.first, shape.second, shape.third, shape.fourth];
-                    match kinds::size(four, stored.kind) {
-                        Measure::Refused { why } => TensorRead::Refused { why, place: at },
-                        Measure::Bytes { product, size } => {
-                            if 18446744073709551615 - total < product {
-                                return TensorRead::Refused { why: 15, place: at };
-                            }
-                            TensorRead::Found {
-                                tensor: Tensor {
-                                    name,
-                                    shape,
-                                    kind: stored.kind,
-                                    offset: stored.offset,
-                                    parameters: product,
-                                    size,
-                                },
-                                next,
-                            }
-                        }
-                    }
-                }
+                StoredRead::Found { stored, next } => fitted(at, total, name, shape, stored, next),
             },
         },
     }

@@ -2,7 +2,8 @@
 -- Assumes nothing.
 use borrow.Author.Needs.{needs}
 use mathlib.Core.Path.{sym, _∙_}
-use Rattle.kinds.proofs.Measures.{Passed, no-kind, no-product, no-size, sized}
+use native.Mathlib.Omega.{arith}
+use Rattle.kinds.proofs.Measures.{Passed, no-kind, no-product, no-size, bytes-fit, sized}
 use Rattle.kinds.proofs.size.Statement.{statement}
 use Rattle.kinds.proofs.size.Tie as tie
 
@@ -30,13 +31,18 @@ returns-2 c =
     no-product (block .before .args .shape) (block .before .args .kind) (block .block-and-type-size .ensures) (known .if1 .left)
     (sym (c .enum-told .given .1) ∙ c .before .before .product .ensures)
 
+bytes-in-requires : tie.Need-bytes-in-requires
+bytes-in-requires c κs =
+    let p = passed (c .before .before .before) in
+    (bytes-fit p (sym (c .if2 .taken) ∙ c .before .fits2 .ensures), omega (arith, p .some))
+
 returns-3 : tie.Need-returns-3
-returns-3 c = no-size (passed (c .before .before .before .before)) (sym (c .enum-told2 .given .1) ∙ c .before .before .times .ensures)
+returns-3 c =
+    let t = c .before in
+    rw (c .bytes-in .ensures) (sized (passed (t .before .before .before)) (sym (t .if2 .taken) ∙ t .before .fits2 .ensures))
 
 returns-4 : tie.Need-returns-4
-returns-4 c =
-    let fit = c .before .before in
-    sized (passed (fit .before .before .before .before)) (sym (fit .total .given .1) ∙ fit .before .before .times .ensures)
+returns-4 c = no-size (passed (c .before .before .before)) (sym (c .if2 .left) ∙ c .before .fits2 .ensures)
 
 pub size-spec : {M : Type 1} → statement M
 size-spec =
@@ -49,8 +55,6 @@ size-spec =
     (λ c. search needs)
     returns-2
     (λ c κs. search needs)
-    (λ c. search needs)
-    (λ c. search needs)
+    bytes-in-requires
     returns-3
-    (λ c. search needs)
     returns-4)
