@@ -104,8 +104,8 @@ fn eight_in(s: &[u8], at: usize, big: bool) -> u64
     }
 }
 
-// The number of a field that is wholly there.
-fn value_in(s: &[u8], at: usize, width: Width, big: bool) -> u64
+// The number of a field that is wholly there, for callers that know that it is.
+pub fn value_in(s: &[u8], at: usize, width: Width, big: bool) -> u64
     requires { ⌜ at + widthOf width ≤ length (now s) ⌝ }
     ensures { λ r. ⌜ r ≡ value big (take (widthOf width) (drop at (now (s .entry)))) ⌝ }
 {

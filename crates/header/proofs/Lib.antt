@@ -1,8 +1,10 @@
+pub mod Parts
 pub mod Totals
 pub mod Starts
 pub mod Signs
 pub mod Whole
 pub mod Counted
+pub mod Kept
 pub mod Stays
 pub mod Ceilings
 pub mod Refusals

@@ -1,17 +1,17 @@
 -- The whole run after each of its stages: the start, the entries, the tensors, and the start of the data. Assumes nothing.
 use Prim.Native.Nat.{ℕ, _≤_}
-use mathlib.Core.Path.{_≡_, refl, ap, _∙_}
+use mathlib.Core.Path.{_≡_, refl, sym, ap, _∙_}
 use mathlib.Core.List.{List}
 use mathlib.Core.Bool.{Bool, true, false}
 use native.Mathlib.Omega.{arith}
 use lib.Dec.{leb}
 use borrow.Author.Tests.{leb-true}
 use Rattle.fields.specs.Back.{Sure}
-use Rattle.fields.specs.Ceilings.{under}
+use Rattle.fields.specs.Ceilings.{under, marks}
 use Rattle.fields.specs.Choice.{if_then_else_}
 use Rattle.fields.specs.Each.{each, times, fold}
 use Rattle.fields.specs.Reading.{Reading, done, Answer, accepted, refused, run, _>>=_, _>>_, here, check, andThen, seen, passed}
-use Rattle.fields.proofs.Ceilings.{under-each, run-under, low-run, low-each}
+use Rattle.fields.proofs.Ceilings.{ceilings, let-through, under-each, run-under, low-run, low-each}
 use Rattle.fields.proofs.Sure.{sure-then, sure-done, sure-here, sure-check, sure-under, whatever}
 use Rattle.fields.proofs.Turns.{seen-accepted, seen-refused}
 use Rattle.kinds.specs.Shape.{greatest}
@@ -72,6 +72,12 @@ module _ (l : Limits) (rooms : Rooms) (cap : ℕ) (s : List ℕ) where
   abbrev pub Ended : Start → ℕ → ℕ → Type 0
   Ended c q e = accepted tt e ≡ passed (tensorsFrom c q)
 
+  -- tensors that no ceiling stopped
+  let-tensors : (k : Dialect) (n p : ℕ) {ts : List Tensor} {e : ℕ} → accepted ts e ≡ run (each (λ z. under l (tensor k z)) totalOf n 0) s p → accepted ts e ≡ run (each (tensor k) totalOf n 0) s p
+  let-tensors k n p f =
+      let m = each (tensor k) totalOf n 0 in
+      let-through l (marks m s p) (run m s p) (f ∙ ap (λ x. run x s p) (sym (under-each l (tensor k) totalOf n 0)) ∙ ceilings l m s p)
+
   -- entries have no ceiling
   under-entries : (k : Dialect) (n p : ℕ) → run (under l (times n (entry k cap))) s p ≡ run (times n (entry k cap)) s p
   under-entries k n p = low-run l (times n (entry k cap)) (low-each l _ _ (λ z. low-entry l k cap) n tt) s p
@@ -109,7 +115,7 @@ module _ (l : Limits) (rooms : Rooms) (cap : ℕ) (s : List ℕ) where
     pub es : List Entry
     pub ts : List Tensor
     pub entries : accepted es q ≡ entriesFrom c p
-    pub tensors : accepted ts e ≡ tensorsFrom c q
+    pub tensors : accepted ts e ≡ run (each (tensor (c .dialect)) totalOf (c .tensors) 0) s q
     pub all : outcome ≡ accepted (record { head = h; entries = es; tensors = ts }) (h .end)
     pub room : Room rooms c
 
@@ -149,7 +155,7 @@ module _ (l : Limits) (rooms : Rooms) (cap : ℕ) (s : List ℕ) where
         es = g′ .0;
         ts = t′ .0;
         entries = g′ .1;
-        tensors = t′ .1;
+        tensors = let-tensors (c .dialect) (c .tensors) q (t′ .1);
         all = to-end f (g′ .1) (t′ .1) ∙ all-cases c (g′ .0) (t′ .0) e h _ refl (told ∙ ap (λ x. toldOf c x e) (g′ .2));
         room = sure-under l (sure-start rooms s 0) .holds c p f;
       }

@@ -1,6 +1,7 @@
 // The header of a model file, read from a prefix of it into two lent tables of rows.
 //
-// `read` checks the whole header first and fills the tables then, so that a refusal finds them as they were. Nothing is allocated.
+// `read` checks the whole header first and fills the tables then, so that a refusal finds them as they were. Nothing is allocated. The rows of a short
+// list of entries are kept meanwhile, so that it is read once; a longer one is read twice.
 use fields::Limits;
 use fields::Number;
 use fields::Width;
@@ -10,21 +11,30 @@ use records::Entry;
 use records::EntryRead;
 use records::Passed;
 use records::Scalar;
+use records::Shape;
+use records::Span;
+use records::Tensor;
 use records::TensorRead;
 use records::Value;
 ghost use mathlib.Core.Path.{_≡_};
+ghost use mathlib.Core.List.{_++_};
 ghost use mathlib.Core.Bool.{true};
-ghost use Prim.Native.Nat.{_≤_};
-ghost use lib.ListN.{length};
-ghost use Rattle.fields.specs.Reading.{run, seen, passed, isAccepted};
+ghost use Prim.Native.Nat.{_+_, _*_, _≤_};
+ghost use lib.ListN.{length, take, drop};
+ghost use Rattle.fields.specs.Reading.{accepted, run, seen, passed, isAccepted};
 ghost use Rattle.fields.specs.Each.{each, times, fold, filled};
 ghost use Rattle.fields.specs.Ceilings.{under};
 ghost use Rattle.fields.specs.Value.{asNumber};
-ghost use Rattle.records.specs.Format.{entry, tensor, totalOf};
+ghost use Rattle.kinds.specs.Shape.{productsFit, sizeFits};
+ghost use Rattle.kinds.specs.Table.{knownKind};
+ghost use Rattle.records.specs.Format.{text, entry, lengths, tensor, totalOf};
 ghost use Rattle.records.specs.Answers.{asPassed};
 ghost use Rattle.records.specs.Rows.{entryRow, tensorRow};
 ghost use Rattle.header.specs.Format as format;
-ghost use Rattle.header.specs.Answers.{asMagic, asVersion, asStart, asHeader, toldOf, wholeOf};
+ghost use Rattle.header.specs.Answers.{asMagic, asVersion, asStart, asHeader, lengthThere, shapeThere, rest, tensorOf, toldOf, wholeOf, Keeps};
+
+// How many entry rows are kept while a header is tested. Nearly all headers have no more entries.
+const KEPT: usize = 64;
 
 // How many rows there are.
 pub struct Rooms {
@@ -68,6 +78,14 @@ pub struct Header {
 pub enum HeaderRead {
     Found { header: Header },
     Refused { why: u64, place: usize },
+}
+
+// What stands after a tensor's name, and the place after it.
+pub struct Again {
+    pub shape: Shape,
+    pub kind: u64,
+    pub offset: u64,
+    pub next: usize,
 }
 
 // Whether a number is the magic of a format before this one.
@@ -270,55 +288,193 @@ pub fn pass_tensors(s: &[u8], at: usize, n: u64, dialect: Dialect, limits: Limit
     Passed::To { next: from }
 }
 
-// Writes the rows of n entries that are all there.
-fn fill_entries(s: &[u8], at: usize, n: usize, dialect: Dialect, cap: u64, rows: &mut [[u64; 7]])
-    requires { ⌜ n ≤ length (now rows) ⌝ }
-    requires { ⌜ isAccepted (run (times n (entry dialect cap)) (now s) at) ≡ true ⌝ }
-    ensures { λ r. ⌜ now (rows .exit) ≡ filled entryRow (now (rows .entry)) (run (times n (entry dialect cap)) (now (s .entry)) at) ⌝ }
-{
-    let mut from = at;
-    let mut i: usize = 0;
-    while i < n {
-        match records::read_entry(s, from, dialect, cap) {
-            EntryRead::Refused { why: _, place: _ } => {
-                return;
-            }
-            EntryRead::Found { entry, next } => {
-                rows[i] = records::entry_row(entry);
-                from = next;
-            }
-        }
-        i += 1;
-    }
-}
-
-// Writes the rows of n tensors that are all there.
-fn fill_tensors(
+// Reads n entries into as many rows. Where one is refused the rows before it are written: the table is the caller's own, or all are known to be there.
+fn list_entries(
     s: &[u8],
     at: usize,
     n: usize,
     dialect: Dialect,
-    limits: Limits,
-    rows: &mut [[u64; 10]],
-)
+    cap: u64,
+    rows: &mut [[u64; 7]],
+) -> Number
     requires { ⌜ n ≤ length (now rows) ⌝ }
-    requires { ⌜ isAccepted (run (each (λ z. under limits (tensor dialect z)) totalOf n 0) (now s) at) ≡ true ⌝ }
-    ensures { λ r. ⌜ now (rows .exit) ≡ filled tensorRow (now (rows .entry)) (run (each (λ z. under limits (tensor dialect z)) totalOf n 0) (now (s .entry)) at) ⌝ }
+    ensures { λ r. ⌜ asNumber r ≡ seen (fold format.latest 32) (run (times n (entry dialect cap)) (now (s .entry)) at) ⌝ }
+    ensures { λ r. ⌜ (isAccepted (run (times n (entry dialect cap)) (now (s .entry)) at) ≡ true → now (rows .exit) ≡ filled entryRow (now (rows .entry)) (run (times n (entry dialect cap)) (now (s .entry)) at)) ⌝ }
 {
     let mut from = at;
-    let mut total: u64 = 0;
+    let mut aligned: u64 = 32;
     let mut i: usize = 0;
     while i < n {
-        match records::read_tensor(s, from, dialect, total, limits) {
-            TensorRead::Refused { why: _, place: _ } => {
-                return;
+        match records::read_entry(s, from, dialect, cap) {
+            EntryRead::Refused { why, place } => {
+                return Number::Refused { why, place };
             }
-            TensorRead::Found { tensor, next } => {
-                rows[i] = records::tensor_row(tensor);
+            EntryRead::Found { entry, next } => {
+                rows[i] = records::entry_row(entry);
                 from = next;
-                total += tensor.parameters;
+                aligned = latest(aligned, entry);
             }
         }
+        i += 1;
+    }
+    Number::Value {
+        value: aligned,
+        next: from,
+    }
+}
+
+// Passes n entries as `pass_entries` does, and keeps their rows where there is room for all.
+fn test_entries(
+    s: &[u8],
+    at: usize,
+    n: u64,
+    dialect: Dialect,
+    cap: u64,
+    kept: &mut [[u64; 7]],
+) -> Number
+    ensures { λ r. ⌜ asNumber r ≡ seen (fold format.latest 32) (run (times n (entry dialect cap)) (now (s .entry)) at) ⌝ }
+    ensures { λ r. ⌜ Keeps n (now (kept .exit)) (run (times n (entry dialect cap)) (now (s .entry)) at) ⌝ }
+{
+    if n <= (kept.len() as u64) {
+        list_entries(s, at, n as usize, dialect, cap, kept)
+    } else {
+        pass_entries(s, at, n, dialect, cap)
+    }
+}
+
+// The first n rows of a table, at the front of another.
+fn copy_rows(n: usize, from: &[[u64; 7]], to: &mut [[u64; 7]])
+    requires { ⌜ (n ≤ length (now from)) × (n ≤ length (now to)) ⌝ }
+    ensures { λ r. ⌜ now (to .exit) ≡ take n (now (from .entry)) ++ drop n (now (to .entry)) ⌝ }
+{
+    let mut i: usize = 0;
+    while i < n {
+        to[i] = from[i];
+        i += 1;
+    }
+}
+
+// Writes the rows of n entries that are all there: those that were kept, or by reading once more.
+fn fill_entries(
+    s: &[u8],
+    at: usize,
+    n: usize,
+    dialect: Dialect,
+    cap: u64,
+    kept: &[[u64; 7]],
+    rows: &mut [[u64; 7]],
+)
+    requires { ⌜ n ≤ length (now rows) ⌝ }
+    requires { ⌜ isAccepted (run (times n (entry dialect cap)) (now s) at) ≡ true ⌝ }
+    requires { ⌜ Keeps n (now kept) (run (times n (entry dialect cap)) (now s) at) ⌝ }
+    ensures { λ r. ⌜ now (rows .exit) ≡ filled entryRow (now (rows .entry)) (run (times n (entry dialect cap)) (now (s .entry)) at) ⌝ }
+{
+    if n <= kept.len() {
+        copy_rows(n, kept, rows);
+    } else {
+        list_entries(s, at, n, dialect, cap, rows);
+    }
+}
+
+// The name of a tensor that is there.
+fn name_again(s: &[u8], at: usize, dialect: Dialect) -> Span
+    requires { ⌜ isAccepted (run (text dialect) (now s) at) ≡ true ⌝ }
+    ensures { λ r. ⌜ accepted r (r .place + r .len) ≡ run (text dialect) (now (s .entry)) at ⌝ }
+{
+    if dialect.version == 1 {
+        Span {
+            place: at + 4,
+            len: fields::value_in(s, at, Width::Four, dialect.big) as usize,
+        }
+    } else {
+        Span {
+            place: at + 8,
+            len: fields::value_in(s, at, Width::Eight, dialect.big) as usize,
+        }
+    }
+}
+
+// The length i of a shape of n dimensions, of which the first stands at at.
+fn length_again(s: &[u8], at: usize, big: bool, n: u64, i: u64) -> u64
+    requires { ⌜ at + 8 * n ≤ length (now s) ⌝ }
+    ensures { λ r. ⌜ r ≡ lengthThere (now (s .entry)) at big n i ⌝ }
+{
+    if i < n {
+        fields::value_in(s, at + 8 * (i as usize), Width::Eight, big)
+    } else {
+        1
+    }
+}
+
+// The shape of n dimensions, of which the first length stands at at.
+fn shape_again(s: &[u8], at: usize, big: bool, n: u64) -> Shape
+    requires { ⌜ at + 8 * n ≤ length (now s) ⌝ }
+    ensures { λ r. ⌜ r ≡ shapeThere (now (s .entry)) at big n ⌝ }
+{
+    Shape {
+        dimensions: n,
+        first: length_again(s, at, big, n, 0),
+        second: length_again(s, at, big, n, 1),
+        third: length_again(s, at, big, n, 2),
+        fourth: length_again(s, at, big, n, 3),
+    }
+}
+
+// What stands after the name of a tensor that is there.
+fn rest_again(s: &[u8], at: usize, big: bool) -> Again
+    requires { ⌜ isAccepted (run (rest big) (now s) at) ≡ true ⌝ }
+    ensures { λ r. ⌜ accepted r (r .next) ≡ run (rest big) (now (s .entry)) at ⌝ }
+{
+    let n = fields::value_in(s, at, Width::Four, big);
+    let from = at + 4;
+    let to = from + 8 * (n as usize);
+    Again {
+        shape: shape_again(s, from, big, n),
+        kind: fields::value_in(s, to, Width::Four, big),
+        offset: fields::value_in(s, to + 4, Width::Eight, big),
+        next: to + 12,
+    }
+}
+
+// The row of a tensor of which all is known to fit.
+fn row_again(name: Span, again: Again) -> [u64; 10]
+    requires { ⌜ knownKind (again .kind) ≡ true ⌝ }
+    requires { ⌜ productsFit (lengths (again .shape)) ≡ true ⌝ }
+    requires { ⌜ sizeFits (lengths (again .shape)) (again .kind) ≡ true ⌝ }
+    ensures { λ r. ⌜ r ≡ tensorRow (tensorOf name again) ⌝ }
+{
+    let x = again.shape;
+    let parameters = x.first * x.second * x.third * x.fourth;
+    let block = kinds::block_and_type_size(again.kind);
+    records::tensor_row(Tensor {
+        name,
+        shape: x,
+        kind: again.kind,
+        offset: again.offset,
+        parameters,
+        size: kinds::bytes_in(parameters, block),
+    })
+}
+
+// Writes the rows of n tensors that are all there. It tests nothing again.
+fn fill_tensors(s: &[u8], at: usize, n: usize, dialect: Dialect, rows: &mut [[u64; 10]])
+    requires { ⌜ n ≤ length (now rows) ⌝ }
+    requires { ⌜ isAccepted (run (each (tensor dialect) totalOf n 0) (now s) at) ≡ true ⌝ }
+    ensures { λ r. ⌜ now (rows .exit) ≡ filled tensorRow (now (rows .entry)) (run (each (tensor dialect) totalOf n 0) (now (s .entry)) at) ⌝ }
+{
+    let mut from = at;
+    let mut i: usize = 0;
+    while i < n {
+        let name = name_again(s, from, dialect);
+        let p = name.place + name.len;
+        // The order is a constant in each call, so that the compiler makes a body for each.
+        let found = if dialect.big {
+            rest_again(s, p, true)
+        } else {
+            rest_again(s, p, false)
+        };
+        rows[i] = row_again(name, found);
+        from = found.next;
         i += 1;
     }
 }
@@ -356,19 +512,20 @@ fn fill(
     q: usize,
     start: Start,
     cap: u64,
-    limits: Limits,
+    kept: &[[u64; 7]],
     entries: &mut [[u64; 7]],
     tensors: &mut [[u64; 10]],
 )
     requires { ⌜ (start .entries ≤ length (now entries)) × (start .tensors ≤ length (now tensors)) ⌝ }
     requires { ⌜ isAccepted (run (times (start .entries) (entry (start .dialect) cap)) (now s) p) ≡ true ⌝ }
-    requires { ⌜ isAccepted (run (each (λ z. under limits (tensor (start .dialect) z)) totalOf (start .tensors) 0) (now s) q) ≡ true ⌝ }
+    requires { ⌜ Keeps (start .entries) (now kept) (run (times (start .entries) (entry (start .dialect) cap)) (now s) p) ⌝ }
+    requires { ⌜ isAccepted (run (each (tensor (start .dialect)) totalOf (start .tensors) 0) (now s) q) ≡ true ⌝ }
     ensures { λ r. ⌜ now (entries .exit) ≡ filled entryRow (now (entries .entry)) (run (times (start .entries) (entry (start .dialect) cap)) (now (s .entry)) p) ⌝ }
-    ensures { λ r. ⌜ now (tensors .exit) ≡ filled tensorRow (now (tensors .entry)) (run (each (λ z. under limits (tensor (start .dialect) z)) totalOf (start .tensors) 0) (now (s .entry)) q) ⌝ }
+    ensures { λ r. ⌜ now (tensors .exit) ≡ filled tensorRow (now (tensors .entry)) (run (each (tensor (start .dialect)) totalOf (start .tensors) 0) (now (s .entry)) q) ⌝ }
 {
     let dialect = start.dialect;
-    fill_entries(s, p, start.entries as usize, dialect, cap, entries);
-    fill_tensors(s, q, start.tensors as usize, dialect, limits, tensors);
+    fill_entries(s, p, start.entries as usize, dialect, cap, kept, entries);
+    fill_tensors(s, q, start.tensors as usize, dialect, tensors);
 }
 
 // Reads a header and lists its entries and its tensors, a row each, in the order of the file. Where it refuses, both tables stay as they were.
@@ -390,18 +547,18 @@ pub fn read(
     match read_start(s, limits, rooms) {
         StartRead::Refused { why, place } => HeaderRead::Refused { why, place },
         StartRead::Found { start, next: p } => {
-            let dialect = start.dialect;
-            match pass_entries(s, p, start.entries, dialect, cap) {
+            let mut kept = [[0u64; 7]; KEPT];
+            match test_entries(s, p, start.entries, start.dialect, cap, &mut kept) {
                 Number::Refused { why, place } => HeaderRead::Refused { why, place },
                 Number::Value {
                     value: alignment,
                     next: q,
-                } => match pass_tensors(s, q, start.tensors, dialect, limits) {
+                } => match pass_tensors(s, q, start.tensors, start.dialect, limits) {
                     Passed::Refused { why, place } => HeaderRead::Refused { why, place },
                     Passed::To { next: end } => match told(start, alignment, end) {
                         HeaderRead::Refused { why, place } => HeaderRead::Refused { why, place },
                         HeaderRead::Found { header } => {
-                            fill(s, p, q, start, cap, limits, entries, tensors);
+                            fill(s, p, q, start, cap, &kept, entries, tensors);
                             HeaderRead::Found { header }
                         }
                     },

@@ -1,3 +1,4 @@
+-- `header::read` meets its contract: each stage that refuses ends the run, and past the last one both tables are filled. Assumes nothing.
 use mathlib.Core.Path.{refl, sym, ap, _∙_}
 use borrow.Author.Needs.{needs}
 use denote.Ref.{now}
@@ -25,16 +26,16 @@ started : (c : tie.After-start) →
 started c = ap asStart (sym (c .start .given .1)) ∙ c .before .before .read-start .ensures
 
 aligned : (c : tie.After-alignment) →
-    let b = c .before .before .before .before .before in
+    let b = c .before .before .before .before .before .before in
     let z = b .before .before .before .before in
     let g = b .start .given .0 in
     let h = c .alignment .given .0 in
     Aligned (z .args .limits) (rooms z) (z .args .cap) (now (z .args .s)) (g .0) (g .1 .0) (h .0) (h .1 .0)
-aligned c = ap asNumber (sym (c .alignment .given .1)) ∙ c .before .before .pass-entries .ensures
+aligned c = ap asNumber (sym (c .alignment .given .1)) ∙ c .before .before .before .test-entries .ensures .0
 
 ended : (c : tie.After-end) →
     let d = c .before .before .before .before in
-    let b = d .before .before .before .before .before in
+    let b = d .before .before .before .before .before .before in
     let z = b .before .before .before .before in
     Ended (z .args .limits) (rooms z) (z .args .cap) (now (z .args .s)) (b .start .given .0 .0) (d .alignment .given .0 .1 .0) (c .end .given .0 .0)
 ended c = ap asPassed (sym (c .end .given .1)) ∙ c .before .before .pass-tensors .ensures
@@ -43,7 +44,7 @@ ended c = ap asPassed (sym (c .end .given .1)) ∙ c .before .before .pass-tenso
 known : (c : tie.After-header) →
     let e = c .before .before .before .before in
     let d = e .before .before .before .before in
-    let b = d .before .before .before .before .before in
+    let b = d .before .before .before .before .before .before in
     let z = b .before .before .before .before in
     let g = b .start .given .0 in
     let h = d .alignment .given .0 in
@@ -51,12 +52,14 @@ known : (c : tie.After-header) →
 known c =
     let e = c .before .before .before .before in
     let d = e .before .before .before .before in
-    reached _ _ _ _ (started (d .before .before .before .before .before)) (aligned d) (ended e) (sym (c .header .given .1) ∙ c .before .before .told .ensures)
+    reached _ _ _ _ (started (d .before .before .before .before .before .before)) (aligned d) (ended e) (sym (c .header .given .1) ∙ c .before .before .told .ensures)
 
 fill-requires : tie.Need-fill-requires
 fill-requires c κs =
-    let k = known (c .before .before .before) in
-    (k .room, (ap isAccepted (sym (k .entries)), ap isAccepted (sym (k .tensors))))
+    let t = c .before .before .before .before in
+    let d = t .before .before .before .before .before .before .before .before in
+    let k = known t in
+    (k .room, (ap isAccepted (sym (k .entries)), (d .before .before .before .test-entries .ensures .1, ap isAccepted (sym (k .tensors)))))
 
 returns : tie.Need-returns
 unfolding seen
@@ -67,15 +70,15 @@ returns c =
 returns-2 : tie.Need-returns-2
 unfolding seen
 returns-2 c =
-    let r = ap asNumber (sym (c .before .why2 .given .1)) ∙ c .before .before .before .pass-entries .ensures in
-    rw (no-entries _ _ _ _ (started (c .before .before .before .before .before .before)) r) (refl, (refl, refl))
+    let r = ap asNumber (sym (c .before .why2 .given .1)) ∙ c .before .before .before .before .test-entries .ensures .0 in
+    rw (no-entries _ _ _ _ (started (c .before .before .before .before .before .before .before)) r) (refl, (refl, refl))
 
 returns-3 : tie.Need-returns-3
 unfolding seen
 returns-3 c =
     let r = ap asPassed (sym (c .before .why3 .given .1)) ∙ c .before .before .before .pass-tensors .ensures in
     let d = c .before .before .before .before .before in
-    rw (no-tensors _ _ _ _ (started (d .before .before .before .before .before)) (aligned d) r) (refl, (refl, refl))
+    rw (no-tensors _ _ _ _ (started (d .before .before .before .before .before .before)) (aligned d) r) (refl, (refl, refl))
 
 returns-4 : tie.Need-returns-4
 unfolding seen
@@ -83,16 +86,16 @@ returns-4 c =
     let r = sym (c .before .why4 .given .1) ∙ c .before .before .before .told .ensures in
     let e = c .before .before .before .before .before in
     let d = e .before .before .before .before in
-    rw (no-data _ _ _ _ (started (d .before .before .before .before .before)) (aligned d) (ended e) r) (refl, (refl, refl))
+    rw (no-data _ _ _ _ (started (d .before .before .before .before .before .before)) (aligned d) (ended e) r) (refl, (refl, refl))
 
 returns-5 : tie.Need-returns-5
 unfolding seen
 returns-5 c =
     let f = c .before .before in
-    let t = c .before .before .before .before .before .before in
+    let t = c .before .before .before .before .before .before .before in
     let k = known t in
     let d = t .before .before .before .before .before .before .before .before in
-    let z = d .before .before .before .before .before .before .before .before .before in
+    let z = d .before .before .before .before .before .before .before .before .before .before in
     rw (k .all) (
       refl,
       (
@@ -108,13 +111,15 @@ read-spec =
     (λ c κs. search needs)
     (λ c. search needs)
     (λ c. search needs)
-    (λ c κs. search needs)
-    (λ c. search needs)
     (λ c. search needs)
     (λ c κs. search needs)
     (λ c. search needs)
     (λ c. search needs)
     (λ c κs. search needs)
+    (λ c. search needs)
+    (λ c. search needs)
+    (λ c κs. search needs)
+    (λ c. search needs)
     (λ c. search needs)
     (λ c. search needs)
     fill-requires
