@@ -14,7 +14,7 @@ extern "C" {
     ) -> u64;
 }
 
-const ROWS: usize = 64;
+const ROWS: usize = 160;
 const UNTOUCHED_ENTRY: [u64; 7] = [7; 7];
 const UNTOUCHED_TENSOR: [u64; 10] = [9; 10];
 

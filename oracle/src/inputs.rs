@@ -131,15 +131,25 @@ fn tensor(made: &mut Made, random: &mut Random) {
     made.number(8, 8 * random.below(1000));
 }
 
-/// A header of any version and byte order, with up to five entries and three tensors.
+/// A header with up to five entries.
 pub fn header(random: &mut Random) -> Made {
+    with_entries(random, 0, 6)
+}
+
+/// A header with some hundred entries: the reader keeps the rows of up to 64 while it tests, and reads more of them twice.
+pub fn long_header(random: &mut Random) -> Made {
+    with_entries(random, 60, 80)
+}
+
+/// A header of any version and byte order, with up to three tensors, and `least` entries or fewer than `spread` more.
+fn with_entries(random: &mut Random, least: u64, spread: u64) -> Made {
     let big = random.below(2) == 1;
     let version = random.pick(&[1, 2, 3, 3]);
     let mut made = Made { bytes: vec![], big, version, fields: vec![(0, 4)] };
     made.bytes.extend_from_slice(if big { b"FUGG" } else { b"GGUF" });
     made.number(4, version);
     let tensors = random.below(4);
-    let entries = random.below(6);
+    let entries = least + random.below(spread);
     made.size(tensors);
     made.size(entries);
     (0..entries).for_each(|_| entry(&mut made, random));

@@ -18,7 +18,7 @@ use original::{FILE_MAGIC_GGUF_LE, GGUF_VERSION_V1, GGUF_VERSION_V2, GGUF_VERSIO
 
 
 use compare::Agreed;
-use inputs::{damaged, header, Random};
+use inputs::{damaged, header, long_header, Random};
 
 fn main() {
     let arguments: Vec<String> = std::env::args().skip(1).collect();
@@ -63,6 +63,16 @@ fn compare_readers(headers: u64) {
         }
         for bytes in damaged(&made, &mut random) {
             agreed.on(&bytes, cap);
+        }
+    }
+    for _ in 0..headers / 25 {
+        let made = long_header(&mut random);
+        agreed.on(&made.bytes, 3);
+        for end in (0..made.bytes.len()).step_by(7) {
+            agreed.on(&made.bytes[..end], 3);
+        }
+        for bytes in damaged(&made, &mut random) {
+            agreed.on(&bytes, 3);
         }
     }
     agreed.tell();
