@@ -181,7 +181,8 @@ pub fn read_string(s: &[u8], at: usize, dialect: Dialect) -> TextRead
                 return TextRead::Refused { why: 7, place: at };
             }
             let len = value as usize;
-            if s.len() - next < len {
+            let end = next + len;
+            if s.len() < end {
                 return TextRead::Refused {
                     why: 1,
                     place: next,
@@ -189,7 +190,7 @@ pub fn read_string(s: &[u8], at: usize, dialect: Dialect) -> TextRead
             }
             TextRead::Found {
                 span: Span { place: next, len },
-                next: next + len,
+                next: end,
             }
         }
     }

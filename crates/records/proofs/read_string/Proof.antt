@@ -24,8 +24,8 @@ returns : tie.Need-returns
 unfolding text textLooking here run andThen
 returns c = let r = sized (c .before .before) in rw (run-bind, run-bind, ← r, run-bind, lt-leb _ _ (c .if1 .taken)) refl
 
-sub-if2 : tie.Need-sub-if2
-sub-if2 c = size-within _ _ _ (sized (c .before .before))
+add-end : tie.Need-add-end
+add-end c = record { fits = omega (arith, size-within _ _ _ (sized (c .before .before)), c .before .before .before .before .before .before .fits, c .before .before .before .before .before .before .good) }
 
 returns-2 : tie.Need-returns-2
 unfolding text textLooking here run andThen
@@ -57,8 +57,7 @@ read-string-spec =
     (λ c. search needs)
     (λ c. search needs)
     returns
-    sub-if2
+    add-end
     returns-2
-    (λ c. omega (arith, size-within _ _ _ (sized (c .before .before .before))))
     returns-3
     returns-4)
