@@ -18,7 +18,7 @@ use Rattle.kinds.specs.Shape.{greatest}
 use Rattle.records.specs.Format.{entry, tensor, totalOf}
 use Rattle.records.proofs.Low.{low-entry}
 use Rattle.layout.specs.Padding.{padded}
-use Rattle.header.specs.Answers.{toldOf}
+use Rattle.header.specs.Answers.{asHeader, toldOf}
 use Rattle.header.specs.Format.{counts, start, latest, headerOf, Whole, header}
 use Rattle.header.specs.declared.Rooms.{Rooms}
 use Rattle.header.specs.declared.Start.{Start}
@@ -27,6 +27,7 @@ use Rattle.fields.specs.declared.Limits.{Limits}
 use Rattle.records.specs.declared.Dialect.{Dialect}
 use Rattle.records.specs.declared.Entry.{Entry}
 use Rattle.records.specs.declared.Tensor.{Tensor}
+use Rattle.header.specs.declared.HeaderRead.{HeaderRead}
 use Rattle.header.specs.declared.HeaderRead.the-variants.{Found as FoundHeader, Refused as NoHeader}
 
 -- there are rows for as many as were counted
@@ -159,3 +160,10 @@ module _ (l : Limits) (rooms : Rooms) (cap : ℕ) (s : List ℕ) where
         all = to-end f (g′ .1) (t′ .1) ∙ all-cases c (g′ .0) (t′ .0) e h _ refl (told ∙ ap (λ x. toldOf c x e) (g′ .2));
         room = sure-under l (sure-start rooms s 0) .holds c p f;
       }
+
+  -- what is told at the end is what the whole run says of the header
+  pub all-told : {c : Start} {p : ℕ} → Started c p → {a q : ℕ} → Aligned c p a q → {e : ℕ} → Ended c q e
+      → (r : HeaderRead) → r ≡ toldOf c a e → asHeader r ≡ seen (λ w. w .head) outcome
+  unfolding seen
+  all-told f g t (FoundHeader h) told = rw (reached f g t told .all) refl
+  all-told f g t (NoHeader n u) told = rw (no-data f g t told) refl

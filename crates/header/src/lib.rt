@@ -505,6 +505,28 @@ pub fn told(start: Start, alignment: u64, end: usize) -> HeaderRead
     }
 }
 
+// Tests a whole header and tells what it says of itself, with no row.
+pub fn measure(s: &[u8], limits: Limits, cap: u64, rooms: Rooms) -> HeaderRead
+    ensures { λ r. ⌜ asHeader r ≡ seen (λ w. w .head) (run (under limits (format.header rooms cap)) (now (s .entry)) 0) ⌝ }
+{
+    match read_start(s, limits, rooms) {
+        StartRead::Refused { why, place } => HeaderRead::Refused { why, place },
+        StartRead::Found { start, next: p } => {
+            let dialect = start.dialect;
+            match pass_entries(s, p, start.entries, dialect, cap) {
+                Number::Refused { why, place } => HeaderRead::Refused { why, place },
+                Number::Value {
+                    value: alignment,
+                    next: q,
+                } => match pass_tensors(s, q, start.tensors, dialect, limits) {
+                    Passed::Refused { why, place } => HeaderRead::Refused { why, place },
+                    Passed::To { next: end } => told(start, alignment, end),
+                },
+            }
+        }
+    }
+}
+
 // Writes the rows of a header that is all there: its entries stand from p on, its tensors from q on.
 fn fill(
     s: &[u8],

@@ -3,16 +3,13 @@
 // Each returns 0, or a number that says why there is no answer: a refusal's, or a TOLD_ constant of lookup or of this crate. Each writes all
 // eight words of the answer that it was lent: the answer's own, or of a refusal its place and seven zeros.
 use fields::Limits;
-use fields::Number;
 use header::Header;
 use header::HeaderRead;
 use header::Rooms;
-use header::StartRead;
 use lookup::FileTypeTold;
 use lookup::Lookup;
 use ranges::RangeCheck;
 use records::Dialect;
-use records::Passed;
 use records::Value;
 use writer::HeaderWritten;
 ghost use mathlib.Core.Path.{_≡_};
@@ -98,35 +95,6 @@ pub extern "C" fn sp_read(
     number_of(read)
 }
 
-// Checks a whole header, whatever its counts, and tells what it says of itself.
-fn measure(s: &[u8], limits: Limits) -> HeaderRead
-    ensures { λ r. ⌜ asHeader r ≡ numbers.measured limits (now (s .entry)) ⌝ }
-{
-    let rooms = Rooms {
-        entries: 18446744073709551615,
-        tensors: 18446744073709551615,
-    };
-    match header::read_start(s, limits, rooms) {
-        StartRead::Refused { why, place } => HeaderRead::Refused { why, place },
-        StartRead::Found { start, next: p } => {
-            let dialect = start.dialect;
-            match header::pass_entries(s, p, start.entries, dialect, 3) {
-                Number::Refused { why, place } => HeaderRead::Refused { why, place },
-                Number::Value {
-                    value: alignment,
-                    next: q,
-                } => match header::pass_tensors(s, q, start.tensors, dialect, limits) {
-                    Passed::Refused { why, place } => HeaderRead::Refused { why, place },
-                    Passed::To { next: end } => match header::told(start, alignment, end) {
-                        HeaderRead::Refused { why, place } => HeaderRead::Refused { why, place },
-                        HeaderRead::Found { header } => HeaderRead::Found { header },
-                    },
-                },
-            }
-        }
-    }
-}
-
 // Measures a header, whatever its counts: 0 with its words in answer, of which the counts are the rows that sp_read needs, or the refusal's
 // number with its place.
 #[no_mangle]
@@ -134,7 +102,11 @@ pub extern "C" fn sp_measure(prefix: &[u8], versions: u32, kinds: u32, answer: &
     ensures { λ r. ⌜ r ≡ numbers.numberOf (numbers.measured (record { versions = versions; kinds = kinds }) (now (prefix .entry))) ⌝ }
     ensures { λ r. ⌜ now (answer .exit) ≡ numbers.wordsOf (numbers.measured (record { versions = versions; kinds = kinds }) (now (prefix .entry))) ⌝ }
 {
-    let read = measure(prefix, ceilings(versions, kinds));
+    let rooms = Rooms {
+        entries: 18446744073709551615,
+        tensors: 18446744073709551615,
+    };
+    let read = header::measure(prefix, ceilings(versions, kinds), 3, rooms);
     *answer = words_of(read);
     number_of(read)
 }

@@ -1,4 +1,4 @@
--- `strutpebble::measure` meets its contract: the stages are those of the whole run, whose refusals it hands on, and where all is there it tells the
+-- `header::measure` meets its contract: the stages are those of the whole run, whose refusals it hands on, and where all is there it tells the
 -- header. Assumes nothing.
 use borrow.Author.Needs.{needs}
 use mathlib.Core.Path.{refl, sym, ap, _∙_}
@@ -6,17 +6,16 @@ use denote.Ref.{now}
 use Rattle.fields.specs.Reading.{seen}
 use Rattle.fields.specs.Value.{asNumber}
 use Rattle.records.specs.Answers.{asPassed}
 use Rattle.header.specs.Answers.{asStart}
-use Rattle.header.proofs.Whole.{Started, Aligned, Ended, Passed, no-start, no-entries, no-tensors, no-data, reached}
-use Rattle.lookup.specs.Questions.{enough}
-use Rattle.strutpebble.proofs.measure.Statement.{statement}
-use Rattle.strutpebble.proofs.measure.Tie as tie
+use Rattle.header.proofs.Whole.{Started, Aligned, Ended, no-start, no-entries, no-tensors, all-told}
+use Rattle.header.proofs.measure.Statement.{statement}
+use Rattle.header.proofs.measure.Tie as tie
 
 -- what was read at each stage
 started : (c : tie.After-start) →
     let z = c .before .before .before .before in
     let g = c .start .given .0 in
-    Started (z .args .limits) enough 3 (now (z .args .s)) (g .0) (g .1 .0)
+    Started (z .args .limits) (z .args .rooms) (z .args .cap) (now (z .args .s)) (g .0) (g .1 .0)
 started c = ap asStart (sym (c .start .given .1)) ∙ c .before .before .read-start .ensures
 
 aligned : (c : tie.After-alignment) →
@@ -24,29 +23,15 @@ aligned : (c : tie.After-alignment) →
     let z = b .before .before .before .before in
     let g = b .start .given .0 in
     let h = c .alignment .given .0 in
-    Aligned (z .args .limits) enough 3 (now (z .args .s)) (g .0) (g .1 .0) (h .0) (h .1 .0)
+    Aligned (z .args .limits) (z .args .rooms) (z .args .cap) (now (z .args .s)) (g .0) (g .1 .0) (h .0) (h .1 .0)
 aligned c = ap asNumber (sym (c .alignment .given .1)) ∙ c .before .before .pass-entries .ensures
 
 ended : (c : tie.After-end) →
     let d = c .before .before .before .before in
     let b = d .before .before .before .before .before in
     let z = b .before .before .before .before in
-    Ended (z .args .limits) enough 3 (now (z .args .s)) (b .start .given .0 .0) (d .alignment .given .0 .1 .0) (c .end .given .0 .0)
+    Ended (z .args .limits) (z .args .rooms) (z .args .cap) (now (z .args .s)) (b .start .given .0 .0) (d .alignment .given .0 .1 .0) (c .end .given .0 .0)
 ended c = ap asPassed (sym (c .end .given .1)) ∙ c .before .before .pass-tensors .ensures
-
--- all that is known where a header was told
-known : (c : tie.After-header) →
-    let e = c .before .before .before .before in
-    let d = e .before .before .before .before in
-    let b = d .before .before .before .before .before in
-    let z = b .before .before .before .before in
-    let g = b .start .given .0 in
-    let h = d .alignment .given .0 in
-    Passed (z .args .limits) enough 3 (now (z .args .s)) (g .0) (g .1 .0) (h .0) (h .1 .0) (e .end .given .0 .0) (c .header .given .0 .0)
-known c =
-    let e = c .before .before .before .before in
-    let d = e .before .before .before .before in
-    reached _ _ _ _ (started (d .before .before .before .before .before)) (aligned d) (ended e) (sym (c .header .given .1) ∙ c .before .before .told .ensures)
 
 returns : tie.Need-returns
 unfolding seen
@@ -68,16 +53,10 @@ returns-3 c =
     rw (no-tensors _ _ _ _ (started (d .before .before .before .before .before)) (aligned d) r) refl
 
 returns-4 : tie.Need-returns-4
-unfolding seen
 returns-4 c =
-    let r = sym (c .before .why4 .given .1) ∙ c .before .before .before .told .ensures in
-    let e = c .before .before .before .before .before in
+    let e = c .before .before in
     let d = e .before .before .before .before in
-    rw (no-data _ _ _ _ (started (d .before .before .before .before .before)) (aligned d) (ended e) r) refl
-
-returns-5 : tie.Need-returns-5
-unfolding seen
-returns-5 c = rw (known (c .before) .all) refl
+    all-told _ _ _ _ (started (d .before .before .before .before .before)) (aligned d) (ended e) _ (c .told .ensures)
 
 pub measure-spec : {M : Type 1} → statement M
 measure-spec =
@@ -93,10 +72,7 @@ measure-spec =
     (λ c. search needs)
     (λ c. search needs)
     (λ c κs. search needs)
-    (λ c. search needs)
-    (λ c. search needs)
     returns
     returns-2
     returns-3
-    returns-4
-    returns-5)
+    returns-4)
