@@ -3,6 +3,7 @@ pub mod Totals
 pub mod Starts
 pub mod Signs
 pub mod Whole
+pub mod Begins
 pub mod Counted
 pub mod Kept
 pub mod Stays

@@ -27,7 +27,7 @@ ghost use Rattle.fields.specs.Ceilings.{under};
 ghost use Rattle.fields.specs.Value.{asNumber};
 ghost use Rattle.kinds.specs.Shape.{productsFit, sizeFits};
 ghost use Rattle.kinds.specs.Table.{knownKind};
-ghost use Rattle.records.specs.Format.{text, entry, lengths, tensor, totalOf};
+ghost use Rattle.records.specs.Format.{sizeWidth, text, entry, lengths, tensor, totalOf};
 ghost use Rattle.records.specs.Answers.{asPassed};
 ghost use Rattle.records.specs.Rows.{entryRow, tensorRow};
 ghost use Rattle.header.specs.Format as format;
@@ -187,6 +187,13 @@ pub fn read_start(s: &[u8], limits: Limits, rooms: Rooms) -> StartRead
             VersionRead::Found { dialect, next } => read_counts(s, next, dialect, rooms),
         },
     }
+}
+
+// Where the entries begin: past the magic, the version and the two counts.
+pub fn first_entry(dialect: Dialect) -> usize
+    ensures { λ r. ⌜ r ≡ 8 + sizeWidth dialect + sizeWidth dialect ⌝ }
+{
+    if dialect.version == 1 { 16 } else { 24 }
 }
 
 // The alignment that a number gives: itself where it is above 0 and a multiple of 8, and else 32.

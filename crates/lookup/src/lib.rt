@@ -3,15 +3,12 @@
 // Each question reads the whole header, with the ceilings of the whole format and rows for any count, so that a bad tensor refuses the
 // lookup of a good key. A string comes back as the part of the prefix that holds it.
 use fields::Limits;
-use fields::Number;
 use header::HeaderRead;
 use header::Rooms;
-use header::StartRead;
 use kinds::FileKind;
 use records::Dialect;
 use records::Entry;
 use records::EntryRead;
-use records::Passed;
 use records::Scalar;
 use records::Span;
 use records::Value;
@@ -89,7 +86,7 @@ fn find_last(s: &[u8], at: usize, n: u64, dialect: Dialect, key: &[u8]) -> Sough
     found
 }
 
-// The last entry of a key.
+// The last entry of a key. The whole header is tested first, and then its entries are read again.
 pub fn find(s: &[u8], key: &[u8]) -> Lookup
     ensures { λ r. ⌜ r ≡ questions.lookup (now (key .entry)) (now (s .entry)) ⌝ }
 {
@@ -101,27 +98,17 @@ pub fn find(s: &[u8], key: &[u8]) -> Lookup
         entries: 18446744073709551615,
         tensors: 18446744073709551615,
     };
-    match header::read_start(s, limits, rooms) {
-        StartRead::Refused { why, place } => Lookup::Refused { why, place },
-        StartRead::Found { start, next: p } => {
-            let dialect = start.dialect;
-            match header::pass_entries(s, p, start.entries, dialect, 3) {
-                Number::Refused { why, place } => Lookup::Refused { why, place },
-                Number::Value {
-                    value: alignment,
-                    next: q,
-                } => match header::pass_tensors(s, q, start.tensors, dialect, limits) {
-                    Passed::Refused { why, place } => Lookup::Refused { why, place },
-                    Passed::To { next: end } => match header::told(start, alignment, end) {
-                        HeaderRead::Refused { why, place } => Lookup::Refused { why, place },
-                        HeaderRead::Found { header: _ } => {
-                            match find_last(s, p, start.entries, dialect, key) {
-                                Sought::Present { entry } => Lookup::Found { entry },
-                                Sought::Missing => Lookup::Absent,
-                            }
-                        }
-                    },
-                },
+    match header::measure(s, limits, 3, rooms) {
+        HeaderRead::Refused { why, place } => Lookup::Refused { why, place },
+        HeaderRead::Found { header: head } => {
+            let dialect = Dialect {
+                version: head.version,
+                big: head.big,
+            };
+            let at = header::first_entry(dialect);
+            match find_last(s, at, head.entries, dialect, key) {
+                Sought::Present { entry } => Lookup::Found { entry },
+                Sought::Missing => Lookup::Absent,
             }
         }
     }
