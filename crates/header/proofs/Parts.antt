@@ -20,7 +20,7 @@ use Rattle.fields.proofs.Turns.{each-never}
 use Rattle.kinds.specs.Shape.{greatest, productOf, productsFitFrom, productsFit, bytesBefore, sizeFits, sizeOf}
 use Rattle.kinds.specs.Table.{blockOf, knownKind}
 use Rattle.records.specs.Format.{lengths, sizeWidth, size, textLooking, text, lengthAt, lengthsOf, shape, stored, tensor, totalOf}
-use Rattle.header.specs.Answers.{lengthThere, shapeThere, inOrder, rest, tensorOf}
+use Rattle.header.specs.Steps.{lengthThere, shapeThere, inOrder, rest, tensorOf}
 use Rattle.kinds.specs.declared.Block.{Block}
 use Rattle.records.specs.declared.Dialect.{Dialect}
 use Rattle.records.specs.declared.Shape.{Shape}

@@ -1,3 +1,4 @@
 pub mod Format
 pub mod Answers
+pub mod Steps
 pub mod Contents

@@ -31,7 +31,8 @@ ghost use Rattle.records.specs.Format.{sizeWidth, text, entry, lengths, tensor,
 ghost use Rattle.records.specs.Answers.{asPassed};
 ghost use Rattle.records.specs.Rows.{entryRow, tensorRow};
 ghost use Rattle.header.specs.Format as format;
-ghost use Rattle.header.specs.Answers.{asMagic, asVersion, asStart, asHeader, lengthThere, shapeThere, rest, tensorOf, toldOf, wholeOf, Keeps};
+ghost use Rattle.header.specs.Answers.{asMagic, asVersion, asStart, asHeader, toldOf, wholeOf};
+ghost use Rattle.header.specs.Steps.{Keeps, lengthThere, shapeThere, rest, tensorOf};
 
 // How many entry rows are kept while a header is tested. Nearly all headers have no more entries.
 const KEPT: usize = 64;
@@ -177,7 +178,7 @@ fn read_counts(s: &[u8], at: usize, dialect: Dialect, rooms: Rooms) -> StartRead
 }
 
 // All that stands before the first record.
-pub fn read_start(s: &[u8], limits: Limits, rooms: Rooms) -> StartRead
+fn read_start(s: &[u8], limits: Limits, rooms: Rooms) -> StartRead
     ensures { λ r. ⌜ asStart r ≡ run (under limits (format.start rooms)) (now (s .entry)) 0 ⌝ }
 {
     match read_magic(s) {
@@ -249,7 +250,7 @@ fn latest(alignment: u64, entry: Entry) -> u64
 }
 
 // Passes n entries: the alignment that they give, and the place after them.
-pub fn pass_entries(s: &[u8], at: usize, n: u64, dialect: Dialect, cap: u64) -> Number
+fn pass_entries(s: &[u8], at: usize, n: u64, dialect: Dialect, cap: u64) -> Number
     ensures { λ r. ⌜ asNumber r ≡ seen (fold format.latest 32) (run (times n (entry dialect cap)) (now (s .entry)) at) ⌝ }
 {
     let mut from = at;
@@ -274,7 +275,7 @@ pub fn pass_entries(s: &[u8], at: usize, n: u64, dialect: Dialect, cap: u64) -> 
 }
 
 // Passes n tensors: the place after them.
-pub fn pass_tensors(s: &[u8], at: usize, n: u64, dialect: Dialect, limits: Limits) -> Passed
+fn pass_tensors(s: &[u8], at: usize, n: u64, dialect: Dialect, limits: Limits) -> Passed
     ensures { λ r. ⌜ asPassed r ≡ passed (run (each (λ z. under limits (tensor dialect z)) totalOf n 0) (now (s .entry)) at) ⌝ }
 {
     let mut from = at;
@@ -487,7 +488,7 @@ fn fill_tensors(s: &[u8], at: usize, n: usize, dialect: Dialect, rows: &mut [[u6
 }
 
 // What is told of a header that ends at end: its data starts at the next multiple of its alignment.
-pub fn told(start: Start, alignment: u64, end: usize) -> HeaderRead
+fn told(start: Start, alignment: u64, end: usize) -> HeaderRead
     ensures { λ r. ⌜ r ≡ toldOf start alignment end ⌝ }
 {
     match layout::pad(alignment, end as u64) {

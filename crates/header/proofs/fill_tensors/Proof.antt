@@ -15,7 +15,7 @@ use Rattle.fields.proofs.Turns.{each-accepted, each-filled, each-last}
 use Rattle.records.specs.Format.{tensor, totalOf}
 use Rattle.records.specs.Rows.{tensorRow}
 use Rattle.records.specs.declared.Dialect.{Dialect}
-use Rattle.header.specs.Answers.{rest}
+use Rattle.header.specs.Steps.{rest}
 use Rattle.header.proofs.Parts.{Found, name-ends, next-name, next-rest, found-again}
 use Rattle.header.proofs.fill_tensors.Statement.{statement}
 use Rattle.header.proofs.fill_tensors.Tie as tie
