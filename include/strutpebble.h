@@ -1,4 +1,5 @@
-/* Strutpebble: GGUF model-file headers, read and written by proved code. Link libstrutpebble.a (rt staticlib strutpebble; x86-64). */
+/* Strutpebble: GGUF model-file headers, read and written by proved code. Link libstrutpebble.a (rt staticlib strutpebble; x86-64). It takes
+   memcpy and memset from the C library and nothing else; sp_read needs some 4.4 KiB of stack. */
 #ifndef STRUTPEBBLE_H
 #define STRUTPEBBLE_H
 

@@ -6,7 +6,7 @@ use std::fmt;
 /// A refusal: its number, and its place.
 ///
 /// The place is that of a byte in the prefix, but for number 20 (the range check), where it is the number of a tensor, counted from 0. Of the
-/// writer, [`write_header`](crate::write_header), it is the number of a tensor for 13 to 15, 35 and 36, and else that of a byte in the sheet.
+/// writer, [`write_header`](crate::write_header), it is the number of a tensor for 13 to 15, 35 and 36, that of a byte in the sheet for 31, and else 0.
 ///
 /// ```
 /// let refusal = strutpebble::read(b"GGUF").unwrap_err();
@@ -64,10 +64,11 @@ impl Refusal {
 
 impl fmt::Display for Refusal {
     fn fmt(&self, f: &mut fmt::Formatter<'_>) -> fmt::Result {
-        // A reader's 13 to 15 are at a byte, and a writer's at a tensor.
+        // A reader's 13 to 15 are at a byte, and a writer's at a tensor. What is wrong with the writer's arguments is at no place.
         let what = match self.number {
             13..=15 => "",
             20 | 35 | 36 => "tensor ",
+            30 | 32..=34 | 37 | 38 => return write!(f, "refused {}: {}", self.number, self.reason()),
             _ => "byte ",
         };
         write!(f, "refused {} at {what}{}: {}", self.number, self.place, self.reason())

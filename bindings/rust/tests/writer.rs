@@ -66,6 +66,7 @@ fn a_short_output_stays_as_it_was() {
     let mut out = [7; 95];
     let answer = write_header(&two_tensors().bytes(), 3, LITTLE, 32, &mut out);
     assert_eq!(answer, Err(Refusal { number: 38, place: 0 }));
+    assert_eq!(answer.unwrap_err().to_string(), "refused 38: the output is too short for the header and its padding");
     assert_eq!(out, [7; 95]);
     assert!(write_header(&two_tensors().bytes(), 3, LITTLE, 32, &mut [7; 96]).is_ok());
     assert_eq!(write_header(&[1], 3, LITTLE, 32, &mut []), Err(Refusal { number: 38, place: 0 }));
