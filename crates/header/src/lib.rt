@@ -1,7 +1,8 @@
 // The header of a model file, read from a prefix of it into two lent tables of rows.
 //
 // `read` checks the whole header first and fills the tables then, so that a refusal finds them as they were. Nothing is allocated. The rows of a short
-// list of entries are kept meanwhile, so that it is read once; a longer one is read twice.
+// list of entries are kept meanwhile, so that it is read once; a longer one is read twice. Tensors are read twice, and the second time nothing is
+// tested (`name_again` and what follows it). `measure` checks a header and fills nothing.
 use fields::Limits;
 use fields::Number;
 use fields::Width;
