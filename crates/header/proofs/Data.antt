@@ -10,10 +10,10 @@ use lib.Dec.{leb, eqb, ltb}
 use lib.IntN.{pos, negsuc}
 use borrow.Author.Tests.{leb-true, leb-false, le-leb, eqb-true, eqb-false}
 use Rattle.fields.specs.Back.{All, Sure}
-use Rattle.fields.specs.Ceilings.{tooNew, Mark, marks, within, orTooNew}
+use Rattle.fields.specs.Ceilings.{marks}
 use Rattle.fields.specs.Choice.{if_then_else_}
 use Rattle.fields.specs.Each.{each, times, fold}
-use Rattle.fields.specs.Reading.{Which, aVersion, aKind, Reading, done, Answer, accepted, refused, run, _>>=_, _>>_, here, check}
+use Rattle.fields.specs.Reading.{Reading, done, accepted, refused, run, _>>=_, _>>_, here, check}
 use Rattle.fields.proofs.Ceilings.{ceilings}
 use Rattle.fields.proofs.Laws.{inside}
 use Rattle.fields.proofs.Sure.{sure-then, sure-done, sure-here, sure-if, sure-each, whatever}
@@ -24,7 +24,7 @@ use Rattle.layout.proofs.Padding.{padded-whole, padded-up}
 use Rattle.fields.specs.declared.Limits.{Limits}
 use Rattle.header.specs.Answers.{wholeOf}
 use Rattle.header.specs.Format.{start, natural, integerOf, usable, alignmentOf, latest, Whole, header}
-use Rattle.header.proofs.Refusals.{refused-at, small-entries, small-tensors, small-start}
+use Rattle.header.proofs.Refusals.{refused-at, never-entries, never-tensors, never-start, not-new}
 use Rattle.header.specs.declared.Rooms.{Rooms}
 use Rattle.records.specs.declared.Dialect.{Dialect}
 use Rattle.records.specs.declared.ArraySpan.{ArraySpan}
@@ -156,25 +156,16 @@ at-here f s p = refl
 pub no-overflow : (rooms : Rooms) (cap : ℕ) (s : List ℕ) → length s < 2 ^ 63 → {p : ℕ} → run (header rooms cap) s 0 ≡ refused 18 p → ⊥
 unfolding header
 no-overflow rooms cap s short {p = o} e =
-    refused-at (start rooms) _ s 0 (sym e) (λ r. omega (arith, small-start rooms .small s 0 r)) (λ c p f g.
-    refused-at (times (c .entries) (entry (c .dialect) cap)) _ s p g (λ r. omega (arith, small-entries (c .dialect) cap (c .entries) .small s p r)) (λ es q h i.
-    refused-at (each (tensor (c .dialect)) totalOf (c .tensors) 0) _ s q i (λ r. omega (arith, small-tensors (c .dialect) (c .tensors) .small s q r)) (λ ts u j k.
+    refused-at (start rooms) _ s 0 (sym e) (never-start refl rooms (λ six. absurd (omega arith)) .never 0) (λ c p f g.
+    refused-at (times (c .entries) (entry (c .dialect) cap)) _ s p g (never-entries refl (c .dialect) cap (c .entries) .never p) (λ es q h i.
+    refused-at (each (tensor (c .dialect)) totalOf (c .tensors) 0) _ s q i (never-tensors refl (c .dialect) (c .tensors) .never q) (λ ts u j k.
     let near : u < 2 ^ 63 =
     omega (arith, inside (start rooms) s 0 f, inside (times (c .entries) (entry (c .dialect) cap)) s p h, inside (each (tensor (c .dialect)) totalOf (c .tensors) 0) s q j) in
     let fits : padded (fold latest 32 es) u ≤ greatest = start-small _ u (entries-alignment (c .dialect) cap (c .entries) s p h) near in
     judged-cases _ (leb (padded (fold latest 32 es) u) greatest) s u 18 o (le-leb _ _ fits) (k ∙ at-here _ s u))))
 
-new-cases : (b : Bool) (x : Which) (p o : ℕ) (r r′ : Answer Whole) → (refused 18 p ≡ r → refused 18 p ≡ r′) → refused 18 p ≡ (if b then r else refused (tooNew x) o) → refused 18 p ≡ r′
-new-cases true x p o r r′ f e = f e
-new-cases false aVersion p o r r′ f e = let z : _≡_ {A = ℕ} 0 1 = cc in absurd (omega arith)
-new-cases false aKind p o r r′ f e = let z : _≡_ {A = ℕ} 0 1 = cc in absurd (omega arith)
-
-not-new : (l : Limits) (ks : List Mark) (p : ℕ) (r : Answer Whole) → refused 18 p ≡ orTooNew l ks r → refused 18 p ≡ r
-not-new l [] p r e = e
-not-new l (k ∷ ks) p r e = new-cases (within l k) (k .which) p (k .place) (orTooNew l ks r) r (not-new l ks p r) e
-
 -- nor does a reader with any ceilings refuse a slice for that
 pub never-18 : (limits : Limits) (cap : ℕ) (es ts : List (List ℕ)) (s : List ℕ) → length s < 2 ^ 63 → {p : ℕ} → wholeOf limits cap es ts s ≡ refused 18 p → ⊥
 never-18 limits cap es ts s short {p} e =
     let rooms : Rooms = record { entries = length es; tensors = length ts } in
-    no-overflow rooms cap s short (sym (not-new limits (marks (header rooms cap) s 0) p _ (sym e ∙ ceilings limits (header rooms cap) s 0)))
+    no-overflow rooms cap s short (sym (not-new limits (marks (header rooms cap) s 0) _ (λ i. omega arith) (λ i. omega arith) (sym e ∙ ceilings limits (header rooms cap) s 0)))

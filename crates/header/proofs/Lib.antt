@@ -10,6 +10,7 @@ pub mod Stays
 pub mod Ceilings
 pub mod Refusals
 pub mod Data
+pub mod Rows
 pub mod Said
 pub mod Back
 pub mod Examples
