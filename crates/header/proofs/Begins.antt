@@ -14,6 +14,7 @@ use Rattle.fields.proofs.Turns.{seen-accepted}
 use Rattle.records.specs.Format.{sizeWidth, size, entry}
 use Rattle.records.specs.declared.Dialect.{Dialect}
 use Rattle.records.specs.declared.Entry.{Entry}
+use Rattle.header.specs.Contents.{dialectIn}
 use Rattle.header.specs.Format.{littleMagic, bigMagic, olderMagic, magic, knownVersion, version, counts, start, Whole, header}
 use Rattle.header.specs.declared.Header.{Header}
 use Rattle.header.specs.declared.Rooms.{Rooms}
@@ -21,10 +22,6 @@ use Rattle.header.specs.declared.Rooms.{Rooms}
 -- the place after the magic, the version and the two counts
 abbrev pub begins : Dialect → ℕ
 begins k = 8 + sizeWidth k + sizeWidth k
-
--- how a file is told whose header says h
-abbrev pub dialectOf : Header → Dialect
-dialectOf h = record { version = h .version; big = h .big }
 
 module _ (s : List ℕ) where
   magic-ends : Sure s magic 0 (λ big q. q ≡ 4)
@@ -61,7 +58,7 @@ module _ (s : List ℕ) where
 
   -- the entries of a header, read from what it says
   abbrev pub entriesFor : ℕ → Header → Answer (List Entry)
-  entriesFor cap h = run (times (h .entries) (entry (dialectOf h) cap)) s (begins (dialectOf h))
+  entriesFor cap h = run (times (h .entries) (entry (dialectIn h) cap)) s (begins (dialectIn h))
 
   entries-there : (rooms : Rooms) (cap : ℕ) → Sure s (header rooms cap) 0 (λ w q. (r : ℕ) × (accepted (w .entries) r ≡ entriesFor cap (w .head)))
   unfolding header

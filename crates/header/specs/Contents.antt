@@ -14,6 +14,7 @@ use Rattle.records.specs.declared.Dialect.{Dialect}
 use Rattle.records.specs.Format.{sizeWidth, isWord, alignmentKey, scalarOf, depth}
 use Rattle.records.specs.Contents.{Content, one, word, list, Entered, Weight, sizeBytes, entryBytes, tensorBytes, enteredOf, weightOf, Within, FitsEntry, FitsTensor, totalWith}
 use Rattle.header.specs.declared.Rooms.{Rooms}
+use Rattle.header.specs.declared.Header.{Header}
 use Rattle.header.specs.declared.Start.{Start}
 use Rattle.header.specs.Format.{littleMagic, knownVersion, integerOf, usable, Whole}
 
@@ -68,9 +69,13 @@ abbrev pub told : Dialect → Sheet → Told
 told k c =
     record { dialect = k; sheet = c; alignment = alignmentIn (c .entries); end = length (headerBytes k c); start = padded (alignmentIn (c .entries)) (length (headerBytes k c)) }
 
+-- the version and byte order that a header tells
+abbrev pub dialectIn : Header → Dialect
+dialectIn h = record { version = h .version; big = h .big }
+
 -- the version and byte order that were read
 abbrev pub dialectOf : Whole → Dialect
-dialectOf w = record { version = w .head .version; big = w .head .big }
+dialectOf w = dialectIn (w .head)
 
 -- what was read, with what stands at its places
 abbrev pub sheetOf : List ℕ → Whole → Sheet

@@ -8,7 +8,8 @@ use Rattle.fields.specs.Reading.{accepted, run, isAccepted, seen}
 use Rattle.fields.proofs.Turns.{seen-refused}
 use Rattle.records.specs.Format.{entry}
 use Rattle.header.specs.Answers.{asHeader, full}
-use Rattle.header.proofs.Begins.{dialectOf, Again, again}
+use Rattle.header.specs.Contents.{dialectIn}
+use Rattle.header.proofs.Begins.{Again, again}
 use Rattle.lookup.specs.Questions.{enough, sought}
 use Rattle.lookup.specs.declared.Sought.the-variants.{Missing}
 use Rattle.lookup.proofs.find.Statement.{statement}
@@ -22,7 +23,7 @@ known c = again _ _ _ _ (ap asHeader (sym (c .head .given .1)) ∙ c .before .be
 there : (c : tie.After-first-entry) →
     let b = c .before .before in
     let h = b .head .given .0 .0 in
-    accepted (known b .whole .entries) (known b .after) ≡ run (times (h .entries) (entry (dialectOf h) 3)) (now (b .before .before .before .before .before .args .s)) (c .first-entry .result)
+    accepted (known b .whole .entries) (known b .after) ≡ run (times (h .entries) (entry (dialectIn h) 3)) (now (b .before .before .before .before .before .args .s)) (c .first-entry .result)
 there c = rw (c .first-entry .ensures) (known (c .before .before) .entries)
 
 -- what was found in them
