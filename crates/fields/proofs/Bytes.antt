@@ -7,8 +7,8 @@ use native.Mathlib.Omega.{arith}
 use native.Mathlib.Nat.{pow-suc}
 use lib.ListN.{length, take, drop, set, length-reverse, length-set, take-append-drop}
 use lib.Seq.{drop-cons, take-suc-set, drop-set-lt, getD-set-same}
-use Rattle.fields.specs.Back.{All, Byte}
-use Rattle.fields.specs.Bytes.{little, bytesOf}
+use Rattle.reading.specs.Back.{All}
+use Rattle.fields.specs.Bytes.{Byte, little, bytesOf}
 use Rattle.fields.specs.Value.{leValue, turn, value}
 
 pub length-little : (w v : ℕ) → length (little w v) ≡ w

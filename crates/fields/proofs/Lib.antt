@@ -1,12 +1,7 @@
-pub mod Laws
-pub mod Pieces
-pub mod Turns
-pub mod Ceilings
 pub mod Numbers
 pub mod Bytes
 pub mod Swaps
 pub mod Chain
-pub mod Back
-pub mod Sure
 pub mod Order
 pub mod Before
+pub mod NumberFields

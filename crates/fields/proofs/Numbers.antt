@@ -10,10 +10,10 @@ use lib.ListN.{length, take, drop, getD, length-drop, length-reverse}
 use lib.Seq.{drop-cons, drop-drop, take-add, take-take, length-take-le}
 use lib.Dec.{leb}
 use borrow.Author.Tests.{le-leb, lt-leb}
-use Rattle.fields.specs.Choice.{if_then_else_}
-use Rattle.fields.specs.Reading.{accepted, refused, run}
+use Rattle.reading.specs.Choice.{if_then_else_}
+use Rattle.reading.specs.Reading.{accepted, refused, run}
 use Rattle.fields.specs.Value.{leValue, value, halves, number}
-use Rattle.fields.proofs.Pieces.{small}
+use Rattle.reading.proofs.Pieces.{small}
 
 -- a number that is wholly there, and one that is not
 pub number-there : (w : ℕ) (big : Bool) (s : List ℕ) (at : ℕ) → at + w ≤ length s → run (number w big) s at ≡ accepted (value big (take w (drop at s))) (at + w)

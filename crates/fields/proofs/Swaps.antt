@@ -1,13 +1,13 @@
 -- Four bytes that were read with the little end first, turned round: what they are with the big end first. Assumes nothing.
 use Prim.Native.Nat.{ℕ, zero, suc, _+_, _*_, _/_, _%_, _≤_, _<_}
 use mathlib.Core.Path.{_≡_, sym, ap, _∙_}
-use mathlib.Core.List.{List, _∷_}
+use mathlib.Core.List.{List}
 use mathlib.Core.Bool.{true, false}
 use native.Mathlib.Omega.{arith}
 use lib.ListN.{length, take, drop, getD, length-drop}
 use lib.Seq.{length-take-le}
-use Rattle.fields.specs.Back.{All, Byte}
-use Rattle.fields.specs.Bytes.{bytesOf}
+use Rattle.reading.specs.Back.{All}
+use Rattle.fields.specs.Bytes.{Byte, bytesOf}
 use Rattle.fields.specs.Value.{leValue, value}
 use Rattle.fields.proofs.Numbers.{elems, field-bytes}
 use Rattle.fields.proofs.Bytes.{bytes-value}

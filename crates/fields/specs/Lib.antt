@@ -1,9 +1,3 @@
-pub mod Choice
-pub mod Reading
-pub mod Each
-pub mod Pieces
-pub mod Ceilings
 pub mod Value
 pub mod Bytes
-pub mod Back
 pub mod Order

@@ -3,7 +3,7 @@ use Prim.Native.Nat.{ℕ}
 use mathlib.Core.Bool.{Bool, true, false}
 use mathlib.Core.List.{List, [], _∷_}
 use lib.Dec.{ltb, eqb}
-use Rattle.fields.specs.Choice.{if_then_else_}
+use Rattle.reading.specs.Choice.{if_then_else_}
 
 -- whether one text comes before another: at the first byte where they differ it has the lesser one, or it is the other's front and shorter
 abbrev pub before : List ℕ → List ℕ → Bool

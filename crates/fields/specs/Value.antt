@@ -2,7 +2,7 @@
 use Prim.Native.Nat.{ℕ, _+_, _*_}
 use mathlib.Core.List.{List, [], _∷_, reverse}
 use mathlib.Core.Bool.{Bool, true, false}
-use Rattle.fields.specs.Reading.{Reading, done, next, Answer, accepted, refused}
+use Rattle.reading.specs.Reading.{Reading, done, next, Answer, accepted, refused}
 use Rattle.fields.specs.declared.Width.{Width}
 use Rattle.fields.specs.declared.Width.the-variants.{One, Two, Four, Eight}
 use Rattle.fields.specs.declared.Number.{Number}

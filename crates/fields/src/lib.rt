@@ -1,16 +1,17 @@
-// Numbers and bytes at a place of a slice, in either byte order: read where they are wholly there, and written into what the caller lends.
+// Numbers and bytes at a place of a slice, in either byte order: read where they are wholly there, and written into what
+// the caller lends.
 //
-// `number_at` reads every width, and `put_number` writes every width, in either order. With a known width and order the sums of bytes that it is made
-// of compile to one load (and a swap).
-ghost use mathlib.Core.Path.{_≡_};
+// `number_at` reads every width, and `put_number` writes every width, in either order. With a known width and order the
+// sums of bytes that it is made of compile to one load (and a swap).
+ghost use Prim.Native.Nat.{_+_, _<_, _^_, _≤_};
+ghost use lib.ListN.{drop, length, replicate, take};
+ghost use mathlib.Core.Bool.{false, true};
 ghost use mathlib.Core.List.{[], _∷_};
-ghost use mathlib.Core.Bool.{true, false};
-ghost use Prim.Native.Nat.{_+_, _≤_, _<_, _^_};
-ghost use lib.ListN.{length, take, drop, replicate};
-ghost use Rattle.fields.specs.Reading.{run};
-ghost use Rattle.fields.specs.Value.{widthOf, leValue, value, halves, number, asNumber};
-ghost use Rattle.fields.specs.Bytes.{bytesOf, Wrote};
+ghost use mathlib.Core.Path.{_≡_};
+ghost use Rattle.fields.specs.Bytes.{Wrote, bytesOf};
 ghost use Rattle.fields.specs.Order.{before};
+ghost use Rattle.fields.specs.Value.{asNumber, halves, leValue, number, value, widthOf};
+ghost use Rattle.reading.specs.Reading.{run};
 
 // The widths that a number has.
 pub enum Width {
@@ -24,12 +25,6 @@ pub enum Width {
 pub enum Number {
     Value { value: u64, next: usize },
     Refused { why: u64, place: usize },
-}
-
-// A reader's ceilings: the highest version and the highest kind that it takes.
-pub struct Limits {
-    pub versions: u64,
-    pub kinds: u64,
 }
 
 // A width in bytes.

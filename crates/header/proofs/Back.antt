@@ -1,32 +1,35 @@
 -- A header that was written reads back: its sheet, its alignment, its end and the start of its data, in every version and byte order. Assumes nothing.
 use Prim.Native.Nat.{ℕ, _+_, _≤_}
-use mathlib.Core.Path.{_≡_, refl, sym, ap, subst, _∙_}
+use mathlib.Core.Path.{_≡_, sym, ap, subst, _∙_}
 use mathlib.Core.List.{List, [], _++_, map, append-assoc, append-nil}
-use mathlib.Core.Bool.{Bool, true, false}
-use native.Mathlib.Omega.{arith}
 use native.Mathlib.Nat.{zero-add}
 use lib.ListN.{length, length-append}
 use lib.Dec.{leb}
 use borrow.Author.Tests.{le-leb}
-use Rattle.fields.specs.Back.{same, Back, Sure}
-use Rattle.fields.specs.Bytes.{little, bytesOf, rows}
-use Rattle.fields.specs.Each.{times, fold}
-use Rattle.fields.specs.Reading.{Reading, done, Answer, accepted, refused, run, _>>=_, _>>_, check, seen}
-use Rattle.fields.proofs.Back.{stands-first, follows, exactly, closes, at-place, nothing-more, marked-then, checked, number-back, shown}
+use Rattle.reading.specs.Back.{same, Back, Sure, rows}
+use Rattle.reading.specs.Each.{times, fold}
+use Rattle.reading.specs.Reading.{Reading, done, Answer, accepted, refused, run, _>>=_, _>>_, check, seen}
+use Rattle.reading.proofs.Back.{stands-first, follows, exactly, at-place, nothing-more, checked, shown}
 use Rattle.kinds.specs.Shape.{greatest}
-use Rattle.header.specs.Answers.{full, wholeOf}
-use Rattle.records.specs.Contents.{Noted, noted, sizeBytes, entryBytes, tensorBytes, notedOf, weightOf, Within}
-use Rattle.records.specs.Format.{sizeWidth, entry}
-use Rattle.records.proofs.Back.{size-back, tensors-back, entries-back}
+use Rattle.reading.specs.Ceilings.{full}
+use Rattle.header.specs.Answers.{wholeOf}
+use Rattle.values.specs.Contents.{Noted, noted, entryBytes, notedOf}
+use Rattle.tensors.specs.Contents.{tensorBytes, weightOf}
+use Rattle.values.specs.Format.{entry}
+use Rattle.tensors.proofs.Back.{tensors-back}
+use Rattle.values.proofs.Back.{entries-back}
 use Rattle.layout.specs.Padding.{padded}
-use Rattle.header.specs.Contents.{Sheet, startBytes, startIn, headerBytes, alignmentIn, Told, told, toldIn, FitsSheet}
-use Rattle.header.specs.Format.{littleMagic, bigMagic, magic, knownVersion, version, counts, start, latest, headerOf, header}
-use Rattle.header.proofs.Ceilings.{version-small, full-reader}
+use Rattle.header.specs.Contents.{Sheet, startIn, headerBytes, alignmentIn, Told, told, toldIn, FitsSheet}
+use Rattle.start.specs.Contents.{startBytes}
+use Rattle.start.specs.Format.{version, start}
+use Rattle.header.specs.Format.{latest, headerOf, header}
+use Rattle.header.proofs.Ceilings.{full-reader}
 use Rattle.header.proofs.Said.{sure-entries-say, same-alignment, same-entries}
-use Rattle.header.specs.declared.Rooms.{Rooms}
-use Rattle.records.specs.declared.Dialect.{Dialect}
-use Rattle.records.specs.declared.Entry.{Entry}
-use Rattle.records.specs.declared.Tensor.{Tensor}
+use Rattle.start.specs.declared.Rooms.{Rooms}
+use Rattle.values.specs.declared.Dialect.{Dialect}
+use Rattle.values.specs.declared.Entry.{Entry}
+use Rattle.tensors.specs.declared.Tensor.{Tensor}
+use Rattle.start.proofs.Back.{magic-back, version-back, counts-back}
 
 -- what a view shows, and one thing more
 record Both (C D : Type 0) : Type 0 where
@@ -51,23 +54,6 @@ module _ {s : List ℕ} where
   closing : {A B C D : Type 0} {view : A → C} {view′ : B → D} {m : Reading A} {f : A → Reading B} {p : ℕ} {l : List ℕ} {c : C} {d : D}
       → Back s view m p l c → ((a : A) → view a ≡ c → Back s view′ (f a) (p + length l) [] d) → Back s view′ (m >>= f) p l d
   closing {view′ = view′} {m} {f} {p} {l} {d = d} last then = subst (λ x. Back s view′ (m >>= f) p x d) (append-nil l) (follows last then)
-
-  magic-back : (big : Bool) (p : ℕ) → Back s same magic p (bytesOf big 4 littleMagic) big
-  unfolding magic bytesOf little
-  magic-back false p = at-place _ (closes _ (number-back 4 false littleMagic p (omega arith)) (nothing-more refl))
-  magic-back true p = at-place _ (closes _ (number-back 4 false bigMagic p (omega arith)) (nothing-more refl))
-
-  version-back : (k : Dialect) → knownVersion (k .version) ≡ true → (p : ℕ) → Back s same (version (k .big)) p (bytesOf (k .big) 4 (k .version)) k
-  unfolding version
-  version-back k e p =
-      at-place _ (closes _ (number-back 4 (k .big) (k .version) p (omega (arith, version-small (k .version) e))) (checked 4 p e (marked-then _ _ _ _ (nothing-more refl))))
-
-  counts-back : (rooms : Rooms) (k : Dialect) (n m : ℕ) → Within (sizeWidth k) n → Within (sizeWidth k) m → n ≤ rooms .tensors → m ≤ rooms .entries → (p : ℕ)
-      → Back s same (counts rooms k) p (sizeBytes k n ++ sizeBytes k m) (record { dialect = k; tensors = n; entries = m })
-  unfolding counts
-  counts-back rooms k n m i j roomy roomy′ p =
-      at-place _ (exactly _ (size-back k n i p) (at-place _ (closes _ (size-back k m j _)
-      (checked 6 p (le-leb n (rooms .tensors) roomy) (checked 6 _ (le-leb m (rooms .entries) roomy′) (nothing-more refl))))))
 
 module _ (rooms : Rooms) (cap : ℕ) (k : Dialect) (c : Sheet) (fits : FitsSheet rooms k c) where
   start-back : {s : List ℕ} (p : ℕ) → Back s same (start rooms) p (startBytes (startIn k c)) (startIn k c)

@@ -2,48 +2,28 @@
 use Prim.Native.Nat.{ℕ, _≤_}
 use mathlib.Core.Path.{_≡_, sym, ap, _∙_}
 use mathlib.Core.List.{List}
-use mathlib.Core.Bool.{Bool, true, false}
 use native.Mathlib.Omega.{arith}
 use lib.ListN.{length}
-use lib.Dec.{leb, eqb}
-use borrow.Author.Tests.{leb-true, le-leb}
-use Rattle.fields.specs.Ceilings.{marks, orTooNew, Low}
-use Rattle.fields.specs.Choice.{if_then_else_}
-use Rattle.fields.specs.Each.{fold}
-use Rattle.fields.specs.Reading.{aVersion, Reading, accepted, run}
-use Rattle.fields.proofs.Ceilings.{ceilings, let-through, low-run, low-bind, low-done, low-here, low-mark, low-number, low-checked, low-each}
+use lib.Dec.{leb}
+use Rattle.reading.specs.Ceilings.{marks, orTooNew, Low, full}
+use Rattle.reading.specs.Each.{fold}
+use Rattle.reading.specs.Reading.{Reading, accepted, run}
+use Rattle.reading.proofs.Ceilings.{ceilings, let-through, low-run, low-bind, low-done, low-here, low-checked, low-each}
 use Rattle.kinds.specs.Shape.{greatest}
-use Rattle.header.specs.Answers.{full, wholeOf}
-use Rattle.records.proofs.Low.{low-entry, low-tensor}
+use Rattle.header.specs.Answers.{wholeOf}
+use Rattle.values.proofs.Low.{low-entry}
+use Rattle.tensors.proofs.Low.{low-tensor}
 use Rattle.layout.specs.Padding.{padded}
-use Rattle.header.specs.Format.{knownVersion, version, start, latest, Whole, header}
-use Rattle.header.proofs.Starts.{low-magic, low-counts}
-use Rattle.header.specs.declared.Rooms.{Rooms}
-use Rattle.fields.specs.declared.Limits.{Limits}
-
--- a known version is at most 3
-pub version-small : (v : ℕ) → knownVersion v ≡ true → v ≤ 3
-version-small v e = by (eqb v 0) e
-  where
-    by : (b : Bool) → (if b then false else leb v 3) ≡ true → v ≤ 3
-    by true e = let z : _≡_ {A = ℕ} 0 1 = cc in absurd (omega arith)
-    by false e = leb-true v 3 e
+use Rattle.header.specs.Format.{latest, Whole, header}
+use Rattle.start.specs.declared.Rooms.{Rooms}
+use Rattle.reading.specs.declared.Limits.{Limits}
+use Rattle.start.proofs.Low.{low-start}
 
 module _ (l : Limits) (versions : 3 ≤ l .versions) (kinds : 39 ≤ l .kinds) where
-  low-version : (big : Bool) → Low l (version big)
-  unfolding version
-  low-version big =
-      low-bind l _ _ (low-here l) (λ p. low-bind l _ _ (low-number l 4 big) (λ v. low-checked l (knownVersion v) 4 p _ (λ e.
-      low-bind l _ _ (low-mark l aVersion v p (le-leb v (l .versions) (omega (arith, version-small v e)))) (λ u. low-done l _))))
-
-  low-start : (rooms : Rooms) → Low l (start rooms)
-  unfolding start
-  low-start rooms = low-bind l _ _ (low-magic l) (λ big. low-bind l _ _ (low-version big) (low-counts l rooms))
-
   pub low-header : (rooms : Rooms) (cap : ℕ) → Low l (header rooms cap)
   unfolding header
   low-header rooms cap =
-      low-bind l _ _ (low-start rooms) (λ c. low-bind l _ _ (low-each l _ _ (λ z. low-entry l (c .dialect) cap) (c .entries) tt) (λ es.
+      low-bind l _ _ (low-start l versions rooms) (λ c. low-bind l _ _ (low-each l _ _ (λ z. low-entry l (c .dialect) cap) (c .entries) tt) (λ es.
       low-bind l _ _ (low-each l _ _ (low-tensor l kinds (c .dialect)) (c .tensors) 0) (λ ts. low-bind l _ _ (low-here l) (λ e.
       low-checked l (leb (padded (fold latest 32 es) e) greatest) 18 e _ (λ h. low-done l _)))))
 

@@ -4,17 +4,17 @@ use mathlib.Core.Path.{_≡_}
 use mathlib.Core.List.{List}
 use lib.Dec.{leb}
 use lib.ListN.{length}
-use Rattle.fields.specs.Back.{Sure}
-use Rattle.fields.specs.Each.{fold}
-use Rattle.fields.specs.Reading.{accepted}
-use Rattle.fields.specs.declared.Limits.{Limits}
-use Rattle.fields.proofs.Sure.{sure-then, sure-done, sure-here, sure-check, sure-each, sure-under, whatever}
+use Rattle.reading.specs.Back.{Sure}
+use Rattle.reading.specs.Each.{fold}
+use Rattle.reading.specs.Reading.{accepted}
+use Rattle.reading.specs.declared.Limits.{Limits}
+use Rattle.reading.proofs.Sure.{sure-then, sure-done, sure-here, sure-check, sure-each, sure-under, whatever}
 use Rattle.kinds.specs.Shape.{greatest}
 use Rattle.layout.specs.Padding.{padded}
 use Rattle.header.specs.Answers.{wholeOf}
 use Rattle.header.specs.Format.{latest, Whole, header}
-use Rattle.header.specs.declared.Rooms.{Rooms}
-use Rattle.header.proofs.Whole.{sure-start}
+use Rattle.start.specs.declared.Rooms.{Rooms}
+use Rattle.start.proofs.RowsForCounts.{sure-start}
 
 -- as many records as are counted, and rows for them
 pub record Counted (rooms : Rooms) (w : Whole) : Type 0 where

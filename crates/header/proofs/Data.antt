@@ -1,91 +1,60 @@
 -- Where the data starts: refusal 18 is never the answer to a slice, since the start is at most the alignment or twice the header's end. Assumes nothing.
-use Prim.Native.Nat.{ℕ, suc, _+_, _-_, _%_, _^_, _≤_, _<_, max}
+use Prim.Native.Nat.{ℕ, _+_, _-_, _%_, _^_, _≤_, _<_, max}
 use mathlib.Core.Path.{_≡_, refl, sym, _∙_}
 use mathlib.Core.List.{List, [], _∷_}
-use mathlib.Core.Bool.{Bool, true, false, not}
+use mathlib.Core.Bool.{Bool, true, false}
 use native.Mathlib.Omega.{arith}
 use native.Mathlib.Nat.{mod-eq-of-lt}
 use lib.ListN.{length}
 use lib.Dec.{leb, eqb, ltb}
-use lib.IntN.{pos, negsuc}
 use borrow.Author.Tests.{leb-true, leb-false, le-leb, eqb-true, eqb-false}
-use Rattle.fields.specs.Back.{All, Sure}
-use Rattle.fields.specs.Ceilings.{marks}
-use Rattle.fields.specs.Choice.{if_then_else_}
-use Rattle.fields.specs.Each.{each, times, fold}
-use Rattle.fields.specs.Reading.{Reading, done, accepted, refused, run, _>>=_, _>>_, here, check}
-use Rattle.fields.proofs.Ceilings.{ceilings}
-use Rattle.fields.proofs.Laws.{inside}
-use Rattle.fields.proofs.Sure.{sure-then, sure-done, sure-here, sure-if, sure-each, whatever}
+use Rattle.reading.specs.Back.{All, Sure}
+use Rattle.reading.specs.Ceilings.{marks}
+use Rattle.reading.specs.Choice.{if_then_else_}
+use Rattle.reading.specs.Each.{each, times, fold}
+use Rattle.reading.specs.Reading.{Reading, done, accepted, refused, run, _>>=_, _>>_, here, check}
+use Rattle.reading.proofs.Ceilings.{ceilings}
+use Rattle.reading.proofs.Laws.{inside}
+use Rattle.reading.proofs.Sure.{sure-then, sure-done, sure-here, sure-if, sure-each, whatever}
 use Rattle.kinds.specs.Shape.{greatest}
-use Rattle.records.specs.Format.{value, scalarWidth, signedOf, scalarOf, valueOf, array, depth, keeping, entry, tensor, totalOf}
+use Rattle.values.specs.Format.{value, valueOf, array, depth, keeping, entry}
+use Rattle.scalars.specs.Scalars.{scalarWidth, scalarOf, naturalOf}
+use Rattle.tensors.specs.Format.{tensor, totalOf}
 use Rattle.layout.specs.Padding.{padded}
 use Rattle.layout.proofs.Padding.{padded-whole, padded-up}
-use Rattle.fields.specs.declared.Limits.{Limits}
+use Rattle.reading.specs.declared.Limits.{Limits}
 use Rattle.header.specs.Answers.{wholeOf}
-use Rattle.header.specs.Format.{start, natural, integerOf, usable, alignmentOf, latest, Whole, header}
+use Rattle.start.specs.Format.{start}
+use Rattle.header.specs.Format.{usable, alignmentOf, latest, Whole, header}
 use Rattle.header.proofs.Refusals.{refused-at, never-entries, never-tensors, never-start, not-new}
-use Rattle.header.specs.declared.Rooms.{Rooms}
-use Rattle.records.specs.declared.Dialect.{Dialect}
-use Rattle.records.specs.declared.ArraySpan.{ArraySpan}
-use Rattle.records.specs.declared.Entry.{Entry}
-use Rattle.records.specs.declared.Value.{Value}
-use Rattle.records.specs.declared.Scalar.the-variants.{U8, I8, U16, I16, U32, I32, F32, Bool as Truth, U64, I64, F64}
-use Rattle.records.specs.declared.Value.the-variants.{Single, Text, Array}
-
--- what is not below 0 of a number of w bits is at most that number
-natural-small : (half n : ℕ) → natural (signedOf half n) ≤ n
-natural-small half n = by (ltb n half)
-  where
-    by : (b : Bool) → natural (if b then pos n else negsuc (half + half - suc n)) ≤ n
-    by true = omega arith
-    by false = omega arith
-
--- an integer of any type fits 64 bits
-integer-cases : (n : ℕ) (b0 b1 b2 b3 b4 b5 b6 b7 b10 b11 : Bool) → integerOf (
-    if b0 then U8 (n % 2 ^ 8)
-    else if b1 then I8 (signedOf (2 ^ 7) (n % 2 ^ 8))
-    else if b2 then U16 (n % 2 ^ 16)
-    else if b3 then I16 (signedOf (2 ^ 15) (n % 2 ^ 16))
-    else if b4 then U32 (n % 2 ^ 32)
-    else if b5 then I32 (signedOf (2 ^ 31) (n % 2 ^ 32))
-    else if b6 then F32 (n % 2 ^ 32)
-    else if b7 then Truth (not (eqb (n % 2 ^ 8) 0))
-    else if b10 then U64 (n % 2 ^ 64)
-    else if b11 then I64 (signedOf (2 ^ 63) (n % 2 ^ 64))
-    else F64 (n % 2 ^ 64)) ≤ greatest
-integer-cases n true b1 b2 b3 b4 b5 b6 b7 b10 b11 = omega arith
-integer-cases n false true b2 b3 b4 b5 b6 b7 b10 b11 = omega (arith, natural-small (2 ^ 7) (n % 2 ^ 8))
-integer-cases n false false true b3 b4 b5 b6 b7 b10 b11 = omega arith
-integer-cases n false false false true b4 b5 b6 b7 b10 b11 = omega (arith, natural-small (2 ^ 15) (n % 2 ^ 16))
-integer-cases n false false false false true b5 b6 b7 b10 b11 = omega arith
-integer-cases n false false false false false true b6 b7 b10 b11 = omega (arith, natural-small (2 ^ 31) (n % 2 ^ 32))
-integer-cases n false false false false false false true b7 b10 b11 = omega arith
-integer-cases n false false false false false false false true b10 b11 = omega arith
-integer-cases n false false false false false false false false true b11 = omega arith
-integer-cases n false false false false false false false false false true = omega (arith, natural-small (2 ^ 63) (n % 2 ^ 64))
-integer-cases n false false false false false false false false false false = omega arith
-
-pub integer-small : (t n : ℕ) → integerOf (scalarOf t n) ≤ greatest
-integer-small t n = integer-cases n (eqb t 0) (eqb t 1) (eqb t 2) (eqb t 3) (eqb t 4) (eqb t 5) (eqb t 6) (eqb t 7) (eqb t 10) (eqb t 11)
+use Rattle.start.specs.declared.Rooms.{Rooms}
+use Rattle.values.specs.declared.Dialect.{Dialect}
+use Rattle.values.specs.declared.ArraySpan.{ArraySpan}
+use Rattle.values.specs.declared.Entry.{Entry}
+use Rattle.values.specs.declared.Value.{Value}
+use Rattle.values.specs.declared.Value.the-variants.{Single, Text, Array}
+use Rattle.scalars.proofs.Integers.{Small, natural-small}
+use Rattle.scalars.specs.declared.Natural.{Natural}
+use Rattle.scalars.specs.declared.Natural.the-variants.{Number, None as NoNumber}
 
 -- an alignment is above 0 and fits 64 bits
 pub record Alignment (a : ℕ) : Type 0 where
   pub above : 0 < a
   pub fits : a ≤ greatest
 
-usable-cases : (n : ℕ) → n ≤ greatest → (b c : Bool) → eqb n 0 ≡ b → Alignment (if b then 32 else if c then n else 32)
+pub thirty-two : Alignment 32
+thirty-two = record { above = omega arith; fits = omega arith }
+
+usable-cases : (n : ℕ) → n ≤ greatest → (b c : Bool) → eqb n 0 ≡ b → Alignment (if (if b then false else c) then n else 32)
 usable-cases n h true c e = record { above = omega arith; fits = omega arith }
 usable-cases n h false true e =
     let some : n ≡ 0 → ⊥ = eqb-false n 0 e in
     record { above = omega arith; fits = h }
 usable-cases n h false false e = record { above = omega arith; fits = omega arith }
 
-pub usable-alignment : (n : ℕ) → n ≤ greatest → Alignment (usable n)
-usable-alignment n h = usable-cases n h (eqb n 0) (eqb (n % 8) 0) refl
-
-pub thirty-two : Alignment 32
-thirty-two = record { above = omega arith; fits = omega arith }
+pub usable-alignment : (n : Natural) → Small n → Alignment (usable n)
+usable-alignment (Number n) h = usable-cases n h (eqb n 0) (eqb (n % 8) 0) refl
+usable-alignment NoNumber h = thirty-two
 
 -- however many of an array's items are kept
 pub kept-alignment : (tokens : Bool) (cap : ℕ) (v : Value) → alignmentOf (keeping tokens cap v) ≡ alignmentOf v
@@ -97,7 +66,7 @@ module _ (k : Dialect) (s : List ℕ) where
   sure-value-of : (arrays : ℕ → Reading ArraySpan) (o t p : ℕ) → Sure s (valueOf arrays k o t) p (λ v q. Alignment (alignmentOf v))
   unfolding valueOf
   sure-value-of arrays o t p =
-      sure-if (ltb 0 (scalarWidth t)) _ _ (λ e. sure-then whatever (λ n q u. sure-done (usable-alignment (integerOf (scalarOf t n)) (integer-small t n))))
+      sure-if (ltb 0 (scalarWidth t)) _ _ (λ e. sure-then whatever (λ n q u. sure-done (usable-alignment (naturalOf (scalarOf t n)) (natural-small t n))))
       (λ e. sure-if (eqb t 8) _ _ (λ f. sure-then whatever (λ a q u. sure-done thirty-two)) (λ f. sure-then whatever (λ a q u. sure-done thirty-two)))
 
   sure-value : (p : ℕ) → Sure s (value k) p (λ v q. Alignment (alignmentOf v))

@@ -5,22 +5,28 @@ use mathlib.Core.List.{List, [], _∷_, _++_}
 use mathlib.Core.Bool.{true, false}
 use native.Mathlib.Omega.{arith}
 use lib.ListN.{take}
-use Rattle.fields.specs.Bytes.{little, bytesOf, rows}
-use Rattle.fields.specs.Ceilings.{under}
-use Rattle.fields.specs.Each.{each}
-use Rattle.fields.specs.Reading.{accepted, refused, run, _>>=_, here, seen}
+use Rattle.fields.specs.Bytes.{little, bytesOf, Within}
+use Rattle.reading.specs.Back.{rows}
+use Rattle.reading.specs.Ceilings.{under, full}
+use Rattle.reading.specs.Each.{each}
+use Rattle.reading.specs.Reading.{accepted, refused, run, here, seen, _>>=_}
 use Rattle.fields.specs.Value.{number}
-use Rattle.header.specs.Answers.{full, wholeOf}
+use Rattle.header.specs.Answers.{wholeOf}
 use Rattle.kinds.specs.Table.{blockOf}
-use Rattle.records.specs.Contents.{Weight, sizeBytes, textBytes, typeBytes, lengthBytes, shapeBytes, storedBytes, tensorBytes, Within, FitsLength, FitsShape}
-use Rattle.records.specs.Format.{value, size, textLooking, text, alignmentKey, key, type, scalarWidth, valueOf, entry, lengthAt, lengthsOf, shape, stored, tensor}
-use Rattle.header.specs.Contents.{Sheet, startBytes, headerBytes, toldIn, FitsSheet}
-use Rattle.header.specs.Format.{magic, version, counts, start, header}
+use Rattle.tensors.specs.Contents.{Weight, lengthBytes, shapeBytes, storedBytes, tensorBytes, FitsLength, FitsShape}
+use Rattle.values.specs.Contents.{sizeBytes, textBytes, typeBytes}
+use Rattle.values.specs.Format.{value, size, textLooking, text, alignmentKey, key, type, valueOf, entry}
+use Rattle.scalars.specs.Scalars.{scalarWidth}
+use Rattle.tensors.specs.Format.{lengthAt, lengthsOf, shape, stored, tensor}
+use Rattle.header.specs.Contents.{Sheet, headerBytes, toldIn, FitsSheet}
+use Rattle.start.specs.Contents.{startBytes}
+use Rattle.start.specs.Format.{magic, version, counts, start}
+use Rattle.header.specs.Format.{header}
 use Rattle.header.proofs.Back.{reader-back}
 use Rattle.header.specs.declared.Header.{Header}
-use Rattle.records.specs.declared.Tensor.{Tensor}
-use Rattle.records.specs.declared.Scalar.the-variants.{U32}
-use Rattle.records.specs.declared.Value.the-variants.{Single}
+use Rattle.tensors.specs.declared.Tensor.{Tensor}
+use Rattle.scalars.specs.declared.Scalar.the-variants.{U32}
+use Rattle.values.specs.declared.Value.the-variants.{Single}
 
 -- version 3, no tensors, no entries
 abbrev empty3 : List ℕ

@@ -6,9 +6,9 @@ use mathlib.Core.Bool.{true}
 use native.Mathlib.Omega.{arith}
 use lib.ListN.{length, length-map, take, drop}
 use lib.Seq.{take-at, drop-at}
-use Rattle.fields.specs.Each.{times, filled}
-use Rattle.fields.specs.Reading.{Reading, Answer, accepted, refused, run, isAccepted}
-use Rattle.fields.proofs.Sure.{sure-each, whatever}
+use Rattle.reading.specs.Each.{times, filled}
+use Rattle.reading.specs.Reading.{Reading, Answer, accepted, refused, run, isAccepted}
+use Rattle.reading.proofs.Sure.{sure-each, whatever}
 
 module _ {A B : Type 0} (row : A → B) where
   -- what was filled has the rows in front

@@ -1,7 +1,3 @@
-pub mod Parts
-pub mod Totals
-pub mod Starts
-pub mod Signs
 pub mod Whole
 pub mod Begins
 pub mod Counted

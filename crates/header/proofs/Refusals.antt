@@ -7,22 +7,24 @@ use native.Mathlib.Omega.{arith}
 use lib.ListN.{length}
 use lib.Dec.{leb, eqb, ltb}
 use borrow.Author.Tests.{leb-false}
-use Rattle.fields.specs.Back.{Sure}
-use Rattle.fields.specs.Ceilings.{tooNew, Mark, within, orTooNew}
-use Rattle.fields.specs.Choice.{if_then_else_}
-use Rattle.fields.specs.Each.{each, times}
-use Rattle.fields.specs.Reading.{Which, aVersion, aKind, Reading, done, refuse, field, Answer, accepted, refused, run, _>>=_, here, check, mark, andThen}
+use Rattle.reading.specs.Back.{Sure}
+use Rattle.reading.specs.Ceilings.{tooNew, Mark, within, orTooNew}
+use Rattle.reading.specs.Choice.{if_then_else_}
+use Rattle.reading.specs.Each.{each, times}
+use Rattle.reading.specs.Reading.{Which, aVersion, aKind, Reading, done, refuse, field, Answer, accepted, refused, run, _>>=_, here, check, mark, andThen}
 use Rattle.fields.specs.Value.{number}
-use Rattle.fields.specs.declared.Limits.{Limits}
-use Rattle.fields.proofs.Laws.{run-bind}
+use Rattle.reading.specs.declared.Limits.{Limits}
+use Rattle.reading.proofs.Laws.{run-bind}
 use Rattle.kinds.specs.Shape.{greatest, productOf, productsFit, sizeFits}
 use Rattle.kinds.specs.Table.{knownKind}
-use Rattle.records.specs.Format.{value, lengths, size, textLooking, text, key, type, scalarWidth, valueOf, array, depth, entry, lengthAt, lengthsOf, shape, stored, tensor, totalOf}
-use Rattle.header.specs.Format.{littleMagic, bigMagic, olderMagic, magic, knownVersion, version, counts, start}
-use Rattle.header.specs.declared.Rooms.{Rooms}
-use Rattle.records.specs.declared.Dialect.{Dialect}
-use Rattle.records.specs.declared.Span.{Span}
-use Rattle.records.specs.declared.ArraySpan.{ArraySpan}
+use Rattle.values.specs.Format.{value, size, textLooking, text, key, type, valueOf, array, depth, entry}
+use Rattle.tensors.specs.Format.{lengths, lengthAt, lengthsOf, shape, stored, tensor, totalOf}
+use Rattle.scalars.specs.Scalars.{scalarWidth}
+use Rattle.start.specs.Format.{littleMagic, bigMagic, olderMagic, magic, knownVersion, version, counts, start}
+use Rattle.start.specs.declared.Rooms.{Rooms}
+use Rattle.values.specs.declared.Dialect.{Dialect}
+use Rattle.values.specs.declared.Span.{Span}
+use Rattle.values.specs.declared.ArraySpan.{ArraySpan}
 
 -- a refusal of one program after another is the first one's, or the second one's after what the first read
 refused-cases : {A B : Type 0} (m : Reading A) (f : A → Reading B) (s : List ℕ) (p : ℕ) {n q : ℕ} {Z : Type 0} (r : Answer A) → r ≡ run m s p

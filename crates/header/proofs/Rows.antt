@@ -5,22 +5,22 @@ use mathlib.Core.List.{List}
 use mathlib.Core.Bool.{Bool, true, false}
 use native.Mathlib.Omega.{arith}
 use lib.Dec.{leb, eqb}
-use Rattle.fields.specs.Back.{All, Byte}
-use Rattle.fields.specs.Ceilings.{under, marks}
-use Rattle.fields.specs.Choice.{if_then_else_}
-use Rattle.fields.specs.Each.{fold}
-use Rattle.fields.specs.Reading.{refused, run}
-use Rattle.fields.specs.declared.Limits.{Limits}
-use Rattle.fields.proofs.Ceilings.{ceilings}
-use Rattle.fields.proofs.Sure.{sure-so}
+use Rattle.reading.specs.Back.{All}
+use Rattle.fields.specs.Bytes.{Byte, Within}
+use Rattle.reading.specs.Ceilings.{under, marks}
+use Rattle.reading.specs.Choice.{if_then_else_}
+use Rattle.reading.specs.Each.{fold}
+use Rattle.reading.specs.Reading.{refused, run}
+use Rattle.reading.specs.declared.Limits.{Limits}
+use Rattle.reading.proofs.Ceilings.{ceilings}
+use Rattle.reading.proofs.Sure.{sure-so}
 use Rattle.kinds.specs.Shape.{greatest}
 use Rattle.layout.specs.Padding.{padded}
-use Rattle.records.specs.Format.{sizeWidth}
-use Rattle.records.specs.Contents.{Within}
-use Rattle.records.specs.declared.Dialect.{Dialect}
-use Rattle.records.proofs.Sure.{sure-size}
+use Rattle.values.specs.Format.{sizeWidth}
+use Rattle.values.specs.declared.Dialect.{Dialect}
+use Rattle.values.proofs.Sure.{sure-size}
 use Rattle.header.specs.Format.{latest, header}
-use Rattle.header.specs.declared.Rooms.{Rooms}
+use Rattle.start.specs.declared.Rooms.{Rooms}
 use Rattle.header.proofs.Refusals.{Never, never-then, never-done, never-here, never-check, never-entries, never-tensors, never-start, not-new}
 
 -- a size fits 64 bits

@@ -1,67 +1,33 @@
 -- The alignment that contents say is the one that a reader finds. Assumes nothing.
-use Prim.Native.Nat.{ℕ, suc, _%_, _^_, _≤_, _<_}
+use Prim.Native.Nat.{ℕ, suc, _^_, _≤_, _<_}
 use mathlib.Core.Path.{_≡_, refl, sym, ap, _∙_}
 use mathlib.Core.List.{List, [], _∷_, map}
-use mathlib.Core.Bool.{Bool, true, false, not}
+use mathlib.Core.Bool.{Bool}
 use native.Mathlib.Omega.{arith}
 use lib.Dec.{eqb, ltb}
-use native.Mathlib.Nat.{mod-mod}
-use mir.Val.{bits, hbits, ofZ}
-use mir.Syntax.{Width, w8, w16, w32, w64}
 use borrow.Author.Tests.{ltb-true}
-use Rattle.fields.specs.Back.{All, Sure}
-use Rattle.fields.specs.Choice.{if_then_else_}
-use Rattle.fields.specs.Each.{times, fold}
-use Rattle.fields.specs.Reading.{Reading}
-use Rattle.fields.proofs.Sure.{sure-then, sure-done, sure-here, sure-if, sure-each, sure-so, whatever}
-use Rattle.records.specs.Contents.{Content, one, word, list, Entered, Noted, noted, scalarBits, saidOf, enteredOf, notedOf}
-use Rattle.records.specs.Format.{value, isWord, alignmentKey, scalarWidth, signedOf, scalarOf, valueOf, array, depth, keeping, entry}
-use Rattle.records.proofs.Back.{kept-said}
-use Rattle.records.proofs.Complement.{signed-bits}
-use Rattle.records.proofs.Types.{_&_, below, width-known, scalar-typed}
+use Rattle.reading.specs.Back.{All, Sure}
+use Rattle.reading.specs.Each.{times, fold}
+use Rattle.reading.specs.Reading.{Reading}
+use Rattle.reading.proofs.Sure.{sure-then, sure-done, sure-here, sure-if, sure-each, sure-so, whatever}
+use Rattle.values.specs.Contents.{Content, one, word, list, Entered, Noted, noted, saidOf, enteredOf, notedOf}
+use Rattle.values.specs.Format.{value, isWord, alignmentKey, valueOf, array, depth, keeping, entry}
+use Rattle.scalars.specs.Scalars.{scalarWidth, scalarOf, naturalOf}
+use Rattle.values.proofs.Back.{kept-said}
+use Rattle.scalars.proofs.Types.{width-known, scalar-typed}
 use Rattle.header.specs.Contents.{alignmentSaid, latestSaid, alignmentIn}
 use Rattle.kinds.specs.Shape.{greatest}
 use Rattle.layout.specs.Padding.{padded}
-use Rattle.header.specs.Format.{integerOf, alignmentOf, latest}
-use Rattle.header.proofs.Data.{Alignment, integer-small, usable-alignment, thirty-two, kept-alignment, latest-alignment, start-small}
-use Rattle.records.specs.declared.Dialect.{Dialect}
-use Rattle.records.specs.declared.Span.{Span}
-use Rattle.records.specs.declared.ArraySpan.{ArraySpan}
-use Rattle.records.specs.declared.Entry.{Entry}
-use Rattle.records.specs.declared.Value.{Value}
-use Rattle.records.specs.declared.Scalar.the-variants.{U8, I8, U16, I16, U32, I32, F32, Bool as Truth, U64, I64, F64}
-use Rattle.records.specs.declared.Value.the-variants.{Single, Text, Array}
-
--- the low bits of low bits, and of the two's complement of those
-twice : (w : Width) (n : ℕ) → n % 2 ^ bits w % 2 ^ bits w ≡ n % 2 ^ bits w
-twice w n = mod-mod n (2 ^ bits w)
-
-signed-twice : (w : Width) (n : ℕ) → ofZ w (signedOf (2 ^ hbits w) (n % 2 ^ bits w)) % 2 ^ bits w ≡ n % 2 ^ bits w
-signed-twice w n = ap (λ m. m % 2 ^ bits w) (signed-bits w n) ∙ twice w n
-
--- a scalar that was read is the scalar of its bits
-pub scalar-again : (t n : ℕ) → t ≤ 12 → 0 < scalarWidth t → scalarOf t (scalarBits (scalarOf t n)) ≡ scalarOf t n
-unfolding scalarWidth
-scalar-again t n h =
-    below (λ u. 0 < scalarWidth u → scalarOf u (scalarBits (scalarOf u n)) ≡ scalarOf u n) 13
-    ((λ w. ap U8 (twice w8 n)) &
-    (λ w. ap (λ m. I8 (signedOf (2 ^ 7) m)) (signed-twice w8 n)) &
-    (λ w. ap U16 (twice w16 n)) &
-    (λ w. ap (λ m. I16 (signedOf (2 ^ 15) m)) (signed-twice w16 n)) &
-    (λ w. ap U32 (twice w32 n)) &
-    (λ w. ap (λ m. I32 (signedOf (2 ^ 31) m)) (signed-twice w32 n)) &
-    (λ w. ap F32 (twice w32 n)) &
-    (λ w. truth (eqb (n % 2 ^ 8) 0)) &
-    (λ w. absurd (omega arith)) &
-    (λ w. absurd (omega arith)) &
-    (λ w. ap U64 (twice w64 n)) &
-    (λ w. ap (λ m. I64 (signedOf (2 ^ 63) m)) (signed-twice w64 n)) &
-    (λ w. ap F64 (twice w64 n)) &
-    tt) t (omega arith)
-  where
-    truth : (b : Bool) → Truth (not (eqb ((if not b then 1 else 0) % 2 ^ 8) 0)) ≡ Truth (not b)
-    truth true = refl
-    truth false = refl
+use Rattle.header.specs.Format.{alignmentOf, latest}
+use Rattle.header.proofs.Data.{Alignment, usable-alignment, thirty-two, kept-alignment, latest-alignment, start-small}
+use Rattle.scalars.proofs.Integers.{natural-small}
+use Rattle.values.specs.declared.Dialect.{Dialect}
+use Rattle.values.specs.declared.Span.{Span}
+use Rattle.values.specs.declared.ArraySpan.{ArraySpan}
+use Rattle.values.specs.declared.Entry.{Entry}
+use Rattle.values.specs.declared.Value.{Value}
+use Rattle.values.specs.declared.Value.the-variants.{Single, Text, Array}
+use Rattle.scalars.proofs.Bits.{scalar-again}
 
 module _ (k : Dialect) (s : List ℕ) where
   -- a value gives the alignment that is said of it
@@ -126,7 +92,7 @@ module _ (k : Dialect) (s : List ℕ) where
 
 -- a value gives an alignment, whatever it says
 said-alignment : (c : Content (suc depth)) → Alignment (alignmentSaid c)
-said-alignment (one t v) = usable-alignment (integerOf (scalarOf t v)) (integer-small t v)
+said-alignment (one t v) = usable-alignment (naturalOf (scalarOf t v)) (natural-small t v)
 said-alignment (word b) = thirty-two
 said-alignment (list t l) = thirty-two
 

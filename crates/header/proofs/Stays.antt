@@ -4,14 +4,15 @@ use mathlib.Core.Path.{_≡_, ap}
 use mathlib.Core.List.{List, _++_}
 use lib.ListN.{length}
 use lib.Dec.{T}
-use Rattle.fields.specs.Ceilings.{under}
-use Rattle.fields.specs.Each.{filled}
-use Rattle.fields.specs.Reading.{seen, final}
-use Rattle.fields.proofs.Laws.{stable}
+use Rattle.reading.specs.Ceilings.{under}
+use Rattle.reading.specs.Each.{filled}
+use Rattle.reading.specs.Reading.{seen, final}
+use Rattle.reading.proofs.Laws.{stable}
 use Rattle.header.specs.Answers.{wholeOf}
-use Rattle.records.specs.Rows.{entryRow, tensorRow}
+use Rattle.values.specs.Rows.{entryRow}
+use Rattle.tensors.specs.Rows.{tensorRow}
 use Rattle.header.specs.Format.{Whole, header}
-use Rattle.fields.specs.declared.Limits.{Limits}
+use Rattle.reading.specs.declared.Limits.{Limits}
 
 module _ (limits : Limits) (cap : ℕ) (es ts : List (List ℕ)) (s t : List ℕ) (sure : T (final (wholeOf limits cap es ts s))) where
   -- an answer other than refusal 1 stays the same, whatever bytes t follow

@@ -1,48 +1,35 @@
 -- The whole run after each of its stages: the start, the entries, the tensors, and the start of the data. Assumes nothing.
-use Prim.Native.Nat.{ℕ, _≤_}
+use Prim.Native.Nat.{ℕ}
 use mathlib.Core.Path.{_≡_, refl, sym, ap, _∙_}
 use mathlib.Core.List.{List}
 use mathlib.Core.Bool.{Bool, true, false}
 use native.Mathlib.Omega.{arith}
 use lib.Dec.{leb}
-use borrow.Author.Tests.{leb-true}
-use Rattle.fields.specs.Back.{Sure}
-use Rattle.fields.specs.Ceilings.{under, marks}
-use Rattle.fields.specs.Choice.{if_then_else_}
-use Rattle.fields.specs.Each.{each, times, fold}
-use Rattle.fields.specs.Reading.{Reading, done, Answer, accepted, refused, run, _>>=_, _>>_, here, check, andThen, seen, passed}
-use Rattle.fields.proofs.Ceilings.{ceilings, let-through, under-each, run-under, low-run, low-each}
-use Rattle.fields.proofs.Sure.{sure-then, sure-done, sure-here, sure-check, sure-under, whatever}
-use Rattle.fields.proofs.Turns.{seen-accepted, seen-refused}
+use Rattle.reading.specs.Ceilings.{under, marks}
+use Rattle.reading.specs.Choice.{if_then_else_}
+use Rattle.reading.specs.Each.{each, times, fold}
+use Rattle.reading.specs.Reading.{Reading, done, Answer, accepted, refused, run, _>>=_, _>>_, here, check, andThen, seen, passed}
+use Rattle.reading.proofs.Ceilings.{ceilings, let-through, under-each, run-under, low-run, low-each}
+use Rattle.reading.proofs.Sure.{sure-under}
+use Rattle.reading.proofs.Turns.{seen-accepted, seen-refused}
 use Rattle.kinds.specs.Shape.{greatest}
-use Rattle.records.specs.Format.{entry, tensor, totalOf}
-use Rattle.records.proofs.Low.{low-entry}
+use Rattle.values.specs.Format.{entry}
+use Rattle.tensors.specs.Format.{tensor, totalOf}
+use Rattle.values.proofs.Low.{low-entry}
 use Rattle.layout.specs.Padding.{padded}
 use Rattle.header.specs.Answers.{asHeader, toldOf}
-use Rattle.header.specs.Format.{counts, start, latest, headerOf, Whole, header}
-use Rattle.header.specs.declared.Rooms.{Rooms}
-use Rattle.header.specs.declared.Start.{Start}
+use Rattle.start.specs.Format.{start}
+use Rattle.header.specs.Format.{latest, headerOf, Whole, header}
+use Rattle.start.specs.declared.Rooms.{Rooms}
+use Rattle.start.specs.declared.Start.{Start}
 use Rattle.header.specs.declared.Header.{Header}
-use Rattle.fields.specs.declared.Limits.{Limits}
-use Rattle.records.specs.declared.Dialect.{Dialect}
-use Rattle.records.specs.declared.Entry.{Entry}
-use Rattle.records.specs.declared.Tensor.{Tensor}
+use Rattle.reading.specs.declared.Limits.{Limits}
+use Rattle.values.specs.declared.Dialect.{Dialect}
+use Rattle.values.specs.declared.Entry.{Entry}
+use Rattle.tensors.specs.declared.Tensor.{Tensor}
 use Rattle.header.specs.declared.HeaderRead.{HeaderRead}
 use Rattle.header.specs.declared.HeaderRead.the-variants.{Found as FoundHeader, Refused as NoHeader}
-
--- there are rows for as many as were counted
-abbrev pub Room : Rooms → Start → Type 0
-Room rooms c = (c .entries ≤ rooms .entries) × (c .tensors ≤ rooms .tensors)
-
-sure-counts : (rooms : Rooms) (k : Dialect) (s : List ℕ) (p : ℕ) → Sure s (counts rooms k) p (λ c q. Room rooms c)
-unfolding counts
-sure-counts rooms k s p =
-    sure-here _ (sure-then whatever (λ n q u. sure-here _ (sure-then whatever (λ m r v.
-    sure-check (leb n (rooms .tensors)) 6 p _ (λ e. sure-check (leb m (rooms .entries)) 6 q _ (λ f. sure-done (leb-true _ _ f, leb-true _ _ e)))))))
-
-pub sure-start : (rooms : Rooms) (s : List ℕ) (p : ℕ) → Sure s (start rooms) p (λ c q. Room rooms c)
-unfolding start
-sure-start rooms s p = sure-then whatever (λ big q u. sure-then whatever (λ k r v. sure-counts rooms k s r))
+use Rattle.start.proofs.RowsForCounts.{Room, sure-start}
 
 -- the last test, and what is read
 abbrev judged : Start → List Entry → List Tensor → ℕ → Reading Whole

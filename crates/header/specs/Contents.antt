@@ -4,31 +4,28 @@ use mathlib.Core.Path.{_≡_}
 use mathlib.Core.Bool.{true}
 use mathlib.Core.List.{List, _++_, map}
 use lib.ListN.{length}
-use Rattle.fields.specs.Choice.{if_then_else_}
-use Rattle.fields.specs.Each.{fold}
-use Rattle.fields.specs.Bytes.{bytesOf, rows}
-use Rattle.fields.specs.Back.{Along, All}
+use Rattle.reading.specs.Choice.{if_then_else_}
+use Rattle.reading.specs.Each.{fold}
+use Rattle.reading.specs.Back.{rows, Along, All}
 use Rattle.kinds.specs.Shape.{greatest}
 use Rattle.layout.specs.Padding.{padded}
-use Rattle.records.specs.declared.Dialect.{Dialect}
-use Rattle.records.specs.Format.{sizeWidth, isWord, alignmentKey, scalarOf, depth}
-use Rattle.records.specs.Contents.{Content, one, word, list, Entered, Weight, sizeBytes, entryBytes, tensorBytes, enteredOf, weightOf, Within, FitsEntry, FitsTensor, totalWith}
-use Rattle.header.specs.declared.Rooms.{Rooms}
+use Rattle.values.specs.declared.Dialect.{Dialect}
+use Rattle.values.specs.Format.{sizeWidth, isWord, alignmentKey, depth}
+use Rattle.scalars.specs.Scalars.{scalarOf, naturalOf}
+use Rattle.values.specs.Contents.{Content, one, word, list, Entered, entryBytes, enteredOf, FitsEntry}
+use Rattle.tensors.specs.Contents.{Weight, tensorBytes, weightOf, FitsTensor, totalWith}
+use Rattle.fields.specs.Bytes.{Within}
+use Rattle.start.specs.declared.Rooms.{Rooms}
 use Rattle.header.specs.declared.Header.{Header}
-use Rattle.header.specs.declared.Start.{Start}
-use Rattle.header.specs.Format.{littleMagic, knownVersion, integerOf, usable, Whole}
+use Rattle.start.specs.declared.Start.{Start}
+use Rattle.start.specs.Format.{knownVersion}
+use Rattle.header.specs.Format.{usable, Whole}
+use Rattle.start.specs.Contents.{startBytes}
 
 -- the entries and the tensors, in the order of the file
 pub record Sheet : Type 0 where
   pub entries : List Entered
   pub tensors : List Weight
-
--- The bytes.
-
--- what stands before the first record; a file of the other byte order has its magic the other way round
-unfoldable pub startBytes : Start → List ℕ
-startBytes c =
-    bytesOf (c .dialect .big) 4 littleMagic ++ bytesOf (c .dialect .big) 4 (c .dialect .version) ++ sizeBytes (c .dialect) (c .tensors) ++ sizeBytes (c .dialect) (c .entries)
 
 -- how many records there are
 abbrev pub startIn : Dialect → Sheet → Start
@@ -42,7 +39,7 @@ headerBytes k c = startBytes (startIn k c) ++ rows (entryBytes k) (c .entries) +
 
 -- the alignment that a value gives
 abbrev pub alignmentSaid : Content (suc depth) → ℕ
-alignmentSaid (one t v) = usable (integerOf (scalarOf t v))
+alignmentSaid (one t v) = usable (naturalOf (scalarOf t v))
 alignmentSaid (word b) = 32
 alignmentSaid (list t l) = 32
 

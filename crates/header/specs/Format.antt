@@ -5,108 +5,41 @@
 --    4  a version other than 1, 2 and 3, at the version; `mark` says that one was found known (5 above a reader's ceiling)
 --    6  more tensors, or more entries, than rows, at that count, once both are read
 --   18  a data offset above 2 ^ 64 - 1, at the header's end, last of all
-use Prim.Native.Nat.{ℕ, zero, suc, _%_}
-use mathlib.Core.Bool.{Bool, true, false}
+use Prim.Native.Nat.{ℕ, _%_}
+use mathlib.Core.Bool.{Bool, false}
 use mathlib.Core.List.{List}
 use lib.Dec.{leb, eqb}
-use lib.IntN.{ℤ, pos, negsuc}
-use Rattle.fields.specs.Choice.{if_then_else_}
-use Rattle.fields.specs.Reading.{aVersion, Reading, done, refuse, _>>=_, _>>_, here, check, mark}
-use Rattle.fields.specs.Each.{each, times, fold}
-use Rattle.fields.specs.Value.{number}
+use Rattle.reading.specs.Choice.{if_then_else_}
+use Rattle.reading.specs.Reading.{Reading, done, _>>=_, _>>_, here, check}
+use Rattle.reading.specs.Each.{each, times, fold}
 use Rattle.kinds.specs.Shape.{greatest}
 use Rattle.layout.specs.Padding.{padded}
-use Rattle.records.specs.declared.Dialect.{Dialect}
-use Rattle.records.specs.declared.Scalar.{Scalar}
-use Rattle.records.specs.declared.Scalar.the-variants.{U8, I8, U16, I16, U32, I32, F32, Bool as Truth, U64, I64, F64}
-use Rattle.records.specs.declared.Value.{Value}
-use Rattle.records.specs.declared.Value.the-variants.{Single, Text, Array}
-use Rattle.records.specs.declared.Entry.{Entry}
-use Rattle.records.specs.declared.Tensor.{Tensor}
-use Rattle.records.specs.Format.{size, entry, tensor, totalOf}
-use Rattle.header.specs.declared.Rooms.{Rooms}
-use Rattle.header.specs.declared.Start.{Start}
+use Rattle.values.specs.declared.Value.{Value}
+use Rattle.values.specs.declared.Value.the-variants.{Single, Text, Array}
+use Rattle.values.specs.declared.Entry.{Entry}
+use Rattle.tensors.specs.declared.Tensor.{Tensor}
+use Rattle.values.specs.Format.{entry}
+use Rattle.tensors.specs.Format.{tensor, totalOf}
+use Rattle.start.specs.declared.Rooms.{Rooms}
+use Rattle.start.specs.declared.Start.{Start}
 use Rattle.header.specs.declared.Header.{Header}
+use Rattle.start.specs.Format.{version, start}
+use Rattle.scalars.specs.Scalars.{naturalOf}
+use Rattle.scalars.specs.declared.Natural.{Natural}
+use Rattle.scalars.specs.declared.Natural.the-variants.{Number, None as NoNumber}
 
--- the four bytes that a file begins with, read as a number with the little end first
-abbrev pub littleMagic : ℕ
-littleMagic = 0x46554747
+-- whether a number is an alignment: above 0, and a multiple of 8
+abbrev pub isAlignment : ℕ → Bool
+isAlignment n = if eqb n 0 then false else eqb (n % 8) 0
 
--- the same bytes the other way round: all numbers of the file are too
-abbrev pub bigMagic : ℕ
-bigMagic = 0x47475546
-
--- the magics of the formats before this one
-abbrev pub olderMagic : ℕ → Bool
-olderMagic m = if eqb m 0x67676d6c then true else if eqb m 0x67676d66 then true else if eqb m 0x67676a74 then true else eqb m 0x67676c61
-
--- the magic: whether the big end comes first
-unfoldable pub magic : Reading Bool
-magic = do
-  p ← here
-  m ← number 4 false
-  if eqb m littleMagic then done false
-      else if eqb m bigMagic then done true
-      else if olderMagic m then refuse 2 p
-      else refuse 3 p
-
--- versions 1 to 3
-abbrev pub knownVersion : ℕ → Bool
-knownVersion v = if eqb v 0 then false else leb v 3
-
--- the version, in the byte order that the magic told
-unfoldable pub version : Bool → Reading Dialect
-version big = do
-  p ← here
-  v ← number 4 big
-  check (knownVersion v) 4 p
-  mark aVersion v p
-  done (record { version = v; big = big })
-
--- the two counts, where there are rows for as many
-unfoldable pub counts : Rooms → Dialect → Reading Start
-counts rooms k = do
-  p ← here
-  n ← size k
-  q ← here
-  m ← size k
-  check (leb n (rooms .tensors)) 6 p
-  check (leb m (rooms .entries)) 6 q
-  done (record { dialect = k; tensors = n; entries = m })
-
--- all that stands before the first record
-unfoldable pub start : Rooms → Reading Start
-start rooms = do
-  big ← magic
-  k ← version big
-  counts rooms k
-
--- a number that is not below 0, and 0 for one that is
-abbrev pub natural : ℤ → ℕ
-natural (pos n) = n
-natural (negsuc n) = 0
-
--- the number of an integer, and 0 where the scalar is none or is below 0
-abbrev pub integerOf : Scalar → ℕ
-integerOf (U8 x) = x
-integerOf (I8 x) = natural x
-integerOf (U16 x) = x
-integerOf (I16 x) = natural x
-integerOf (U32 x) = x
-integerOf (I32 x) = natural x
-integerOf (F32 x) = 0
-integerOf (Truth x) = 0
-integerOf (U64 x) = x
-integerOf (I64 x) = natural x
-integerOf (F64 x) = 0
-
--- an alignment is above 0 and a multiple of 8; any other number means 32
-abbrev pub usable : ℕ → ℕ
-usable n = if eqb n 0 then 32 else if eqb (n % 8) 0 then n else 32
+-- the alignment that a number means: itself where it is one; any other number, or none, means 32
+abbrev pub usable : Natural → ℕ
+usable (Number n) = if isAlignment n then n else 32
+usable NoNumber = 32
 
 -- the alignment that a value gives
 abbrev pub alignmentOf : Value → ℕ
-alignmentOf (Single x) = usable (integerOf x)
+alignmentOf (Single x) = usable (naturalOf x)
 alignmentOf (Text a) = 32
 alignmentOf (Array a) = 32
 

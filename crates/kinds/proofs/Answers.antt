@@ -4,7 +4,7 @@ use mathlib.Core.Path.{_≡_, refl}
 use mathlib.Core.Bool.{Bool, true, false}
 use mathlib.Core.List.{List}
 use native.Mathlib.Omega.{arith}
-use Rattle.fields.specs.Choice.{if_then_else_}
+use Rattle.reading.specs.Choice.{if_then_else_}
 use Rattle.kinds.specs.Table.{knownKind}
 use Rattle.kinds.specs.Shape.{productOf, productsFit, sizeFits, sizeOf, measureOf}
 use Rattle.kinds.specs.declared.Measure.{Measure}

@@ -15,7 +15,7 @@ use denote.Laws.{Is}
 use denote.Plain.{UInt}
 use denote.Shadow.{shadow}
 use denote.Array.{Array, each}
-use Rattle.fields.specs.Choice.{if_then_else_}
+use Rattle.reading.specs.Choice.{if_then_else_}
 use Rattle.kinds.specs.declared.Whole.{Whole}
 use Rattle.kinds.specs.declared.Whole.the-variants.{Fits, Over}
 use Rattle.kinds.specs.Shape.{greatest, productFrom, productsFitFrom, wholeOf}

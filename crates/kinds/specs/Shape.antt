@@ -3,7 +3,7 @@ use Prim.Native.Nat.{ℕ, _*_, _/_}
 use mathlib.Core.Bool.{Bool, true, false}
 use mathlib.Core.List.{List, [], _∷_}
 use lib.Dec.{leb}
-use Rattle.fields.specs.Choice.{if_then_else_}
+use Rattle.reading.specs.Choice.{if_then_else_}
 use Rattle.kinds.specs.declared.Whole.{Whole}
 use Rattle.kinds.specs.declared.Whole.the-variants.{Fits, Over}
 use Rattle.kinds.specs.declared.Measure.{Measure}

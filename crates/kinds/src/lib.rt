@@ -1,12 +1,11 @@
-// The kinds of tensor data, the size of a tensor, and the file type's table.
-ghost use mathlib.Core.Path.{_≡_};
-ghost use Prim.Native.Nat.{_*_, _/_, _≤_, _<_};
+// The kinds of tensor data, and the size of a tensor.
+ghost use Prim.Native.Nat.{_*_, _/_, _<_, _≤_};
 ghost use lib.Dec.{leb};
-ghost use Rattle.fields.specs.Choice.{if_then_else_};
+ghost use mathlib.Core.Path.{_≡_};
+ghost use Rattle.kinds.specs.Shape.{greatest, measureOf, wholeOf};
 ghost use Rattle.kinds.specs.Table.{block, blockOf, knownKind, writtenKind};
-ghost use Rattle.kinds.specs.Shape.{greatest, wholeOf, measureOf};
 ghost use Rattle.kinds.specs.declared.Whole.the-variants.{Fits, Over};
-ghost use Rattle.kinds.specs.FileType.{fileTypeOf};
+ghost use Rattle.reading.specs.Choice.{if_then_else_};
 
 // How many numbers a block of a kind holds, and how many bytes it takes. A block of no numbers: there is no such kind.
 pub struct Block {
@@ -24,12 +23,6 @@ pub enum Whole {
 pub enum Measure {
     Bytes { product: u64, size: u64 },
     Refused { why: u64 },
-}
-
-// A number of the file type's table, or none of it.
-pub enum FileKind {
-    Number { number: u64 },
-    Unknown,
 }
 
 // The greatest number of 64 bits.
@@ -161,14 +154,4 @@ pub fn size(shape: [u64; 4], kind: u64) -> Measure
         };
     }
     Measure::Refused { why: 14 }
-}
-
-// A number of the file type's table.
-pub fn file_type(number: u64) -> FileKind
-    ensures { λ r. ⌜ r ≡ fileTypeOf number ⌝ }
-{
-    if 24 < number {
-        return FileKind::Unknown;
-    }
-    FileKind::Number { number }
 }

@@ -4,7 +4,7 @@ use Prim.Native.Nat.{ℕ, suc, _+_}
 use mathlib.Core.Bool.{Bool}
 use mathlib.Core.List.{List, [], _∷_}
 use lib.Dec.{leb}
-use Rattle.fields.specs.Choice.{if_then_else_}
+use Rattle.reading.specs.Choice.{if_then_else_}
 use Rattle.kinds.specs.Table.{writtenKind}
 use Rattle.kinds.specs.Shape.{greatest, productOf, productsFit, sizeFits, sizeOf}
 use Rattle.layout.specs.Padding.{padded}

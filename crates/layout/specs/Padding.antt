@@ -1,7 +1,7 @@
 -- A number rounded up to a multiple.
 use Prim.Native.Nat.{ℕ, _+_, _-_, _*_, _/_}
 use lib.Dec.{leb, eqb}
-use Rattle.fields.specs.Choice.{if_then_else_}
+use Rattle.reading.specs.Choice.{if_then_else_}
 use Rattle.kinds.specs.Shape.{greatest}
 use Rattle.kinds.specs.declared.Whole.{Whole}
 use Rattle.kinds.specs.declared.Whole.the-variants.{Fits, Over}

@@ -6,14 +6,16 @@ use native.Mathlib.Nat.{sub-zero}
 use lib.ListN.{length, drop, length-map}
 use lib.Seq.{take-at}
 use borrow.Rule.Slice.PartMut.{midOf}
-use Rattle.fields.specs.Each.{filled}
-use Rattle.fields.specs.Reading.{accepted, refused, seen}
-use Rattle.fields.proofs.Turns.{seen-accepted, seen-refused}
-use Rattle.records.specs.Rows.{entryRow, tensorRow}
-use Rattle.header.specs.Answers.{full, wholeOf}
+use Rattle.reading.specs.Each.{filled}
+use Rattle.reading.specs.Reading.{accepted, refused, seen}
+use Rattle.reading.proofs.Turns.{seen-accepted, seen-refused}
+use Rattle.values.specs.Rows.{entryRow}
+use Rattle.tensors.specs.Rows.{tensorRow}
+use Rattle.reading.specs.Ceilings.{full}
+use Rattle.header.specs.Answers.{wholeOf}
 use Rattle.header.specs.Format.{Whole}
 use Rattle.header.specs.declared.Header.{Header}
-use Rattle.header.specs.declared.Rooms.{Rooms}
+use Rattle.start.specs.declared.Rooms.{Rooms}
 use Rattle.header.proofs.Counted.{Counted, counted}
 use Rattle.listing.specs.Text.{refusalLine, linesOf, textOf, listingIn}
 

@@ -9,7 +9,7 @@ use native.Mathlib.Nat.{pow-suc}
 use lib.Dec.{ltb}
 use lib.ListN.{length, drop, set}
 use borrow.Author.Tests.{lt-ltb, le-ltb, ltb-true}
-use Rattle.fields.specs.Choice.{if_then_else_}
+use Rattle.reading.specs.Choice.{if_then_else_}
 use Rattle.fields.proofs.Bytes.{drop-set}
 use Rattle.listing.specs.Text.{digits, decimal}
 

@@ -3,14 +3,16 @@ use Prim.Native.Nat.{ℕ}
 use mathlib.Core.Path.{_≡_, refl}
 use mathlib.Core.List.{List, [], _∷_}
 use lib.ListN.{take}
-use Rattle.fields.specs.Bytes.{rows}
-use Rattle.fields.specs.Ceilings.{under}
-use Rattle.fields.specs.Each.{each}
-use Rattle.fields.specs.Reading.{run, _>>=_, here}
+use Rattle.reading.specs.Back.{rows}
+use Rattle.reading.specs.Ceilings.{under}
+use Rattle.reading.specs.Each.{each}
+use Rattle.reading.specs.Reading.{run, here}
 use Rattle.fields.specs.Value.{number}
 use Rattle.kinds.specs.Table.{blockOf}
-use Rattle.records.specs.Format.{size, textLooking, text, lengthAt, lengthsOf, shape, stored, tensor}
-use Rattle.header.specs.Format.{magic, version, counts, start, header}
+use Rattle.values.specs.Format.{size, textLooking, text}
+use Rattle.tensors.specs.Format.{lengthAt, lengthsOf, shape, stored, tensor}
+use Rattle.start.specs.Format.{magic, version, counts, start}
+use Rattle.header.specs.Format.{header}
 use Rattle.listing.specs.Order.{orderedAfter, ordered}
 use Rattle.listing.specs.Text.{digits, decimal, labelled, formatText, headLine, furtherText, lengthsText, shapeText, tensorLine, refusalLine, linesOf, textOf, listingIn, listing}
 

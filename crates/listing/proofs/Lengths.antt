@@ -7,8 +7,8 @@ use lib.Dec.{ltb}
 use lib.ListN.{take, getD}
 use lib.Seq.{take-all}
 use borrow.Author.Tests.{lt-ltb}
-use Rattle.fields.specs.Bytes.{rows}
-use Rattle.fields.specs.Choice.{if_then_else_}
+use Rattle.reading.specs.Back.{rows}
+use Rattle.reading.specs.Choice.{if_then_else_}
 use Rattle.listing.specs.Text.{decimal, labelled, furtherText, lengthsText, lengthsIn}
 
 module _ (p q r t : ℕ) where

@@ -7,7 +7,7 @@ use native.Mathlib.Omega.{arith}
 use native.Mathlib.Numerals.{add-one, sub-one}
 use lib.ListN.{length, drop, getD, drop-of-length-le}
 use lib.Seq.{drop-cons}
-use Rattle.fields.specs.Choice.{if_then_else_}
+use Rattle.reading.specs.Choice.{if_then_else_}
 use Rattle.fields.specs.Order.{before}
 use Rattle.listing.specs.Order.{nameIn, keyAt, toCome, better, improved, bestFrom, nextKey, orderedAfter}
 use Rattle.listing.specs.declared.NextKey.{NextKey}

@@ -8,8 +8,8 @@ use mathlib.Core.List.{List, [], _∷_}
 use native.Mathlib.Omega.{arith}
 use native.Mathlib.Nat.{not-suc-le-zero, le-of-suc-le-suc}
 use lib.ListN.{length, getD}
-use Rattle.fields.specs.Back.{All}
-use Rattle.fields.specs.Choice.{if_then_else_}
+use Rattle.reading.specs.Back.{All}
+use Rattle.reading.specs.Choice.{if_then_else_}
 use Rattle.fields.specs.Order.{before}
 use Rattle.fields.proofs.Before.{clash, not-itself, neither, through}
 use Rattle.listing.specs.Order.{nameIn, keyAt, toCome, nextKey, rowThen, orderedAfter, ordered}

@@ -5,8 +5,8 @@ use mathlib.Core.List.{List, [], _∷_, _++_, append-assoc, append-nil}
 use native.Mathlib.Numerals.{add-one}
 use lib.ListN.{length, drop, getD, drop-of-length-le}
 use lib.Seq.{drop-cons}
-use Rattle.fields.specs.Bytes.{rows}
 use borrow.Rule.Slice.PartMut.{midOf, putMid}
+use Rattle.reading.specs.Back.{rows}
 use Rattle.listing.specs.Text.{Put}
 use Rattle.listing.proofs.Put.{put-chain, put-none, put-same}
 

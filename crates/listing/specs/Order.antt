@@ -3,9 +3,9 @@ use Prim.Native.Nat.{ℕ, zero, suc}
 use mathlib.Core.Bool.{Bool, true}
 use mathlib.Core.List.{List, [], _∷_}
 use lib.ListN.{length, getD}
-use Rattle.fields.specs.Choice.{if_then_else_}
+use Rattle.reading.specs.Choice.{if_then_else_}
 use Rattle.fields.specs.Order.{before}
-use Rattle.records.specs.Contents.{insideOf}
+use Rattle.values.specs.Contents.{insideOf}
 use Rattle.listing.specs.declared.NextKey.{NextKey}
 use Rattle.listing.specs.declared.NextKey.the-variants.{At, Done}
 

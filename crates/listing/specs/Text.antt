@@ -4,14 +4,15 @@ use mathlib.Core.Bool.{Bool}
 use mathlib.Core.List.{List, [], _∷_, _++_, map}
 use lib.Dec.{ltb}
 use lib.ListN.{length, take, getD}
-use Rattle.fields.specs.Choice.{if_then_else_}
-use Rattle.fields.specs.Bytes.{rows, Wrote}
-use Rattle.fields.specs.Ceilings.{under}
-use Rattle.fields.specs.Reading.{Answer, accepted, refused, run}
-use Rattle.records.specs.Rows.{entryRow, tensorRow}
+use Rattle.reading.specs.Choice.{if_then_else_}
+use Rattle.reading.specs.Back.{rows}
+use Rattle.fields.specs.Bytes.{Wrote}
+use Rattle.reading.specs.Ceilings.{under, full}
+use Rattle.reading.specs.Reading.{Answer, accepted, refused, run}
+use Rattle.values.specs.Rows.{entryRow}
+use Rattle.tensors.specs.Rows.{tensorRow}
 use Rattle.header.specs.declared.Header.{Header}
-use Rattle.header.specs.declared.Rooms.{Rooms}
-use Rattle.header.specs.Answers.{full}
+use Rattle.start.specs.declared.Rooms.{Rooms}
 use Rattle.header.specs.Format.{Whole, header}
 use Rattle.listing.specs.Order.{nameIn, ordered}
 

@@ -2,22 +2,24 @@
 //
 // Every writer here puts its text at the front of what it is lent, as much of it as there is room for, and answers how many bytes that is. So none
 // asks for room, and one that answers less than the room has put all of its text.
-use fields::Limits;
+use reading::Limits;
 use header::Header;
 use header::HeaderRead;
-use records::Span;
+use values::Span;
 ghost use mathlib.Core.Path.{_≡_};
 ghost use Prim.Native.Nat.{_≤_, min};
 ghost use mathlib.Core.List.{[], _∷_};
 ghost use lib.ListN.{length, drop};
 ghost use lib.Dec.{ltb};
-ghost use Rattle.fields.specs.Choice.{if_then_else_};
-ghost use Rattle.fields.specs.Bytes.{rows};
-ghost use Rattle.fields.specs.Each.{filled};
-ghost use Rattle.fields.specs.Reading.{seen};
-ghost use Rattle.records.specs.Rows.{entryRow, tensorRow};
-ghost use Rattle.records.specs.Contents.{insideOf};
-ghost use Rattle.header.specs.Answers.{full, wholeOf};
+ghost use Rattle.reading.specs.Choice.{if_then_else_};
+ghost use Rattle.reading.specs.Back.{rows};
+ghost use Rattle.reading.specs.Each.{filled};
+ghost use Rattle.reading.specs.Reading.{seen};
+ghost use Rattle.values.specs.Rows.{entryRow};
+ghost use Rattle.tensors.specs.Rows.{tensorRow};
+ghost use Rattle.values.specs.Contents.{insideOf};
+ghost use Rattle.reading.specs.Ceilings.{full};
+ghost use Rattle.header.specs.Answers.{wholeOf};
 ghost use Rattle.listing.specs.Order as order;
 ghost use Rattle.listing.specs.Text as text;
 
@@ -111,7 +113,7 @@ fn put_head(out: &mut [u8], header: Header) -> usize
 fn name_in(s: &[u8], place: u64, len: u64) -> &[u8]
     ensures { λ r. ⌜ now r ≡ insideOf (now (s .entry)) (record { place = place; len = len }) ⌝ }
 {
-    records::inside(
+    values::inside(
         s,
         Span {
             place: place as usize,

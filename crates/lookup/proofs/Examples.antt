@@ -4,14 +4,16 @@ use mathlib.Core.Path.{_≡_, refl}
 use mathlib.Core.List.{List, [], _∷_}
 use mathlib.Core.Bool.{false}
 use lib.ListN.{take}
-use Rattle.fields.specs.Ceilings.{under}
-use Rattle.fields.specs.Each.{each}
-use Rattle.fields.specs.Reading.{run, _>>=_, here, seen}
+use Rattle.reading.specs.Ceilings.{under}
+use Rattle.reading.specs.Each.{each}
+use Rattle.reading.specs.Reading.{run, here, seen, _>>=_}
 use Rattle.fields.specs.Value.{number}
-use Rattle.records.specs.Format.{size, textLooking, text, key, type, scalarWidth, valueOf, array, value, entry}
-use Rattle.records.specs.declared.Scalar.the-variants.{U8}
-use Rattle.records.specs.declared.Value.the-variants.{Single}
-use Rattle.header.specs.Format.{magic, version, counts, start, header}
+use Rattle.values.specs.Format.{size, textLooking, text, key, type, valueOf, array, value, entry}
+use Rattle.scalars.specs.Scalars.{scalarWidth}
+use Rattle.scalars.specs.declared.Scalar.the-variants.{U8}
+use Rattle.values.specs.declared.Value.the-variants.{Single}
+use Rattle.start.specs.Format.{magic, version, counts, start}
+use Rattle.header.specs.Format.{header}
 use Rattle.lookup.specs.Questions.{lookup}
 use Rattle.lookup.specs.declared.Lookup.the-variants.{Found, Absent, Refused}
 

@@ -4,13 +4,13 @@ use mathlib.Core.Path.{_≡_}
 use mathlib.Core.List.{List}
 use lib.Dec.{leb}
 use lib.ListN.{length}
-use Rattle.fields.specs.Back.{Sure}
-use Rattle.fields.specs.Reading.{accepted, run}
-use Rattle.fields.proofs.Sure.{sure-then, sure-done, sure-here, sure-check, sure-field, whatever}
-use Rattle.records.specs.Format.{textLooking, key, entry}
-use Rattle.records.specs.declared.Dialect.{Dialect}
-use Rattle.records.specs.declared.Span.{Span}
-use Rattle.records.specs.declared.Entry.{Entry}
+use Rattle.reading.specs.Back.{Sure}
+use Rattle.reading.specs.Reading.{accepted, run}
+use Rattle.reading.proofs.Sure.{sure-then, sure-done, sure-here, sure-check, sure-field, whatever}
+use Rattle.values.specs.Format.{textLooking, key, entry}
+use Rattle.values.specs.declared.Dialect.{Dialect}
+use Rattle.values.specs.declared.Span.{Span}
+use Rattle.values.specs.declared.Entry.{Entry}
 
 -- a text that ends before the bytes do
 abbrev Inside : List ℕ → Span → Type 0

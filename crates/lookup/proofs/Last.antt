@@ -4,9 +4,9 @@ use mathlib.Core.Path.{_≡_, ap, _∙_}
 use mathlib.Core.List.{List, []}
 use mathlib.Core.Bool.{true}
 use native.Mathlib.Omega.{arith}
-use Rattle.fields.specs.Back.{got}
-use Rattle.fields.specs.Each.{fold}
-use Rattle.fields.specs.Reading.{Answer, accepted, refused, seen, isAccepted}
+use Rattle.reading.specs.Back.{got}
+use Rattle.reading.specs.Each.{fold}
+use Rattle.reading.specs.Reading.{Answer, accepted, refused, seen, isAccepted}
 
 module _ {S A : Type 0} (f : S → A → S) (z y : S) where
   ended : (whole : Answer (List A)) {q : ℕ} → seen (fold f z) whole ≡ accepted y q → y ≡ fold f z (got whole)

@@ -3,10 +3,11 @@ use Prim.Native.Nat.{ℕ}
 use mathlib.Core.Path.{_≡_, sym}
 use mathlib.Core.List.{List}
 use native.Mathlib.Omega.{arith}
-use Rattle.fields.specs.Back.{All, Byte}
-use Rattle.fields.specs.Reading.{Answer, accepted, refused}
-use Rattle.fields.proofs.Turns.{seen-refused}
-use Rattle.header.specs.Answers.{full}
+use Rattle.reading.specs.Back.{All}
+use Rattle.fields.specs.Bytes.{Byte}
+use Rattle.reading.specs.Reading.{Answer, accepted, refused}
+use Rattle.reading.proofs.Turns.{seen-refused}
+use Rattle.reading.specs.Ceilings.{full}
 use Rattle.header.proofs.Rows.{never-6}
 use Rattle.lookup.specs.Questions.{lookupOf, lookup}
 use Rattle.lookup.specs.declared.Sought.{Sought}

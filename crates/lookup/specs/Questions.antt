@@ -1,25 +1,21 @@
 -- Questions about a header: the value of a key, the string of a key, the file's type. Of equal keys the last decides.
 use Prim.Native.Nat.{ℕ}
 use mathlib.Core.List.{List, [], _∷_}
-use lib.IntN.{ℤ, pos, negsuc}
-use Rattle.fields.specs.Choice.{if_then_else_}
-use Rattle.fields.specs.Reading.{Answer, accepted, refused, run, seen}
-use Rattle.fields.specs.Each.{fold}
-use Rattle.fields.specs.Ceilings.{under}
+use Rattle.reading.specs.Choice.{if_then_else_}
+use Rattle.reading.specs.Reading.{Answer, accepted, refused, run, seen}
+use Rattle.reading.specs.Each.{fold}
+use Rattle.reading.specs.Ceilings.{under, full}
 use Rattle.kinds.specs.Shape.{greatest}
-use Rattle.kinds.specs.FileType.{fileTypeOf}
-use Rattle.kinds.specs.declared.FileKind.{FileKind}
-use Rattle.kinds.specs.declared.FileKind.the-variants.{Number, Unknown}
-use Rattle.records.specs.declared.Span.{Span}
-use Rattle.records.specs.declared.Scalar.{Scalar}
-use Rattle.records.specs.declared.Scalar.the-variants.{U8, I8, U16, I16, U32, I32, F32, Bool as Truth, U64, I64, F64}
-use Rattle.records.specs.declared.Value.{Value}
-use Rattle.records.specs.declared.Value.the-variants.{Single, Text, Array}
-use Rattle.records.specs.declared.Entry.{Entry}
-use Rattle.records.specs.Format.{isWord}
-use Rattle.records.specs.Contents.{bytesAt, insideOf}
-use Rattle.header.specs.declared.Rooms.{Rooms}
-use Rattle.header.specs.Answers.{full}
+use lib.Dec.{leb}
+use Rattle.scalars.specs.Scalars.{naturalOf}
+use Rattle.scalars.specs.declared.Natural.{Natural}
+use Rattle.scalars.specs.declared.Natural.the-variants.{Number, None as NoNumber}
+use Rattle.values.specs.declared.Value.{Value}
+use Rattle.values.specs.declared.Value.the-variants.{Single, Text, Array}
+use Rattle.values.specs.declared.Entry.{Entry}
+use Rattle.values.specs.Format.{isWord}
+use Rattle.values.specs.Contents.{bytesAt, insideOf}
+use Rattle.start.specs.declared.Rooms.{Rooms}
 use Rattle.header.specs.Format.{header}
 use Rattle.lookup.specs.declared.Sought.{Sought}
 use Rattle.lookup.specs.declared.Sought.the-variants.{Present, Missing}
@@ -77,36 +73,19 @@ architectureKey = 103 ∷ 101 ∷ 110 ∷ 101 ∷ 114 ∷ 97 ∷ 108 ∷ 46 ∷ 
 abbrev pub fileTypeKey : List ℕ
 fileTypeKey = 103 ∷ 101 ∷ 110 ∷ 101 ∷ 114 ∷ 97 ∷ 108 ∷ 46 ∷ 102 ∷ 105 ∷ 108 ∷ 101 ∷ 95 ∷ 116 ∷ 121 ∷ 112 ∷ 101 ∷ []
 
--- an integer that may be a file type: below 0 it is none
-abbrev pub signedType : ℤ → FileKind
-signedType (pos n) = fileTypeOf n
-signedType (negsuc n) = Unknown
+-- the file type that a number says: the table has the numbers 0 to 24
+abbrev pub fileTypeOf : Natural → FileTypeTold
+fileTypeOf (Number n) = if leb n 24 then Known n else NotKnown
+fileTypeOf NoNumber = NotKnown
 
--- the file type that a scalar says: an integer of the table, and else none
-abbrev pub scalarFileType : Scalar → FileKind
-scalarFileType (U8 x) = fileTypeOf x
-scalarFileType (I8 x) = signedType x
-scalarFileType (U16 x) = fileTypeOf x
-scalarFileType (I16 x) = signedType x
-scalarFileType (U32 x) = fileTypeOf x
-scalarFileType (I32 x) = signedType x
-scalarFileType (F32 x) = Unknown
-scalarFileType (Truth x) = Unknown
-scalarFileType (U64 x) = fileTypeOf x
-scalarFileType (I64 x) = signedType x
-scalarFileType (F64 x) = Unknown
-
-abbrev pub valueFileType : Value → FileKind
-valueFileType (Single x) = scalarFileType x
-valueFileType (Text a) = Unknown
-valueFileType (Array a) = Unknown
-
-abbrev pub tellType : FileKind → FileTypeTold
-tellType (Number n) = Known n
-tellType Unknown = NotKnown
+-- the file type that a value says: only an integer that is not below 0 says one
+abbrev pub valueFileType : Value → FileTypeTold
+valueFileType (Single x) = fileTypeOf (naturalOf x)
+valueFileType (Text a) = NotKnown
+valueFileType (Array a) = NotKnown
 
 -- the file's type, from the lookup of its key
 abbrev pub fileTypeIn : Lookup → FileTypeTold
-fileTypeIn (Found e) = tellType (valueFileType (e .value))
+fileTypeIn (Found e) = valueFileType (e .value)
 fileTypeIn Absent = NotKnown
 fileTypeIn (Refused n p) = NotRead n p

@@ -2,25 +2,24 @@
 //
 // Each question reads the whole header, with the ceilings of the whole format and rows for any count, so that a bad tensor refuses the
 // lookup of a good key. A string comes back as the part of the prefix that holds it.
-use fields::Limits;
+use reading::Limits;
 use header::HeaderRead;
-use header::Rooms;
-use kinds::FileKind;
-use records::Dialect;
-use records::Entry;
-use records::EntryRead;
-use records::Scalar;
-use records::Span;
-use records::Value;
+use start::Rooms;
+use values::Dialect;
+use values::Entry;
+use values::EntryRead;
+use scalars::Natural;
+use values::Span;
+use values::Value;
 ghost use mathlib.Core.Path.{_≡_};
 ghost use mathlib.Core.Bool.{true};
 ghost use Prim.Native.Nat.{_+_, _≤_};
 ghost use lib.ListN.{length};
-ghost use Rattle.fields.specs.Reading.{run, isAccepted};
-ghost use Rattle.fields.specs.Each.{times, fold};
-ghost use Rattle.fields.specs.Back.{got};
-ghost use Rattle.records.specs.Format.{isWord, entry};
-ghost use Rattle.records.specs.Contents.{bytesAt};
+ghost use Rattle.reading.specs.Reading.{run, isAccepted};
+ghost use Rattle.reading.specs.Each.{times, fold};
+ghost use Rattle.reading.specs.Back.{got};
+ghost use Rattle.values.specs.Format.{isWord, entry};
+ghost use Rattle.values.specs.Contents.{bytesAt};
 ghost use Rattle.lookup.specs.Questions as questions;
 
 // What was found of a key so far.
@@ -57,7 +56,7 @@ fn is_key(s: &[u8], span: Span, key: &[u8]) -> bool
         return false;
     }
     let place = span.place;
-    records::begins_at(s, place, key)
+    values::begins_at(s, place, key)
 }
 
 // The last of n entries that are all there whose key it is.
@@ -69,7 +68,7 @@ fn find_last(s: &[u8], at: usize, n: u64, dialect: Dialect, key: &[u8]) -> Sough
     let mut found = Sought::Missing;
     let mut i: u64 = 0;
     while i < n {
-        match records::read_entry(s, from, dialect, 3) {
+        match values::read_entry(s, from, dialect, 3) {
             EntryRead::Refused { why: _, place: _ } => {
                 return found;
             }
@@ -105,7 +104,7 @@ pub fn find(s: &[u8], key: &[u8]) -> Lookup
                 version: head.version,
                 big: head.big,
             };
-            let at = header::first_entry(dialect);
+            let at = start::first_entry(dialect);
             match find_last(s, at, head.entries, dialect, key) {
                 Sought::Present { entry } => Lookup::Found { entry },
                 Sought::Missing => Lookup::Absent,
@@ -126,7 +125,7 @@ pub fn string_of(s: &[u8], found: Lookup) -> &[u8]
             match v {
                 Value::Single(_) => &s[0..0],
                 Value::Array(_) => &s[0..0],
-                Value::Text(a) => records::inside(s, a),
+                Value::Text(a) => values::inside(s, a),
             }
         }
     }
@@ -168,33 +167,18 @@ pub fn model_family<'a>(s: &'a [u8], told: &mut [u64; 2]) -> &'a [u8]
     find_string(s, b"general.architecture", told)
 }
 
-// A file type that is not below 0.
-fn signed_type(n: i64) -> FileKind
-    ensures { λ r. ⌜ r ≡ questions.signedType n ⌝ }
+// The file type that a number says: the table has the numbers 0 to 24.
+fn file_type_of(n: Natural) -> FileTypeTold
+    ensures { λ r. ⌜ r ≡ questions.fileTypeOf n ⌝ }
 {
-    if n < 0 {
-        FileKind::Unknown
-    } else {
-        kinds::file_type(n as u64)
-    }
-}
-
-// The file type that a scalar says.
-fn scalar_file_type(x: Scalar) -> FileKind
-    ensures { λ r. ⌜ r ≡ questions.scalarFileType x ⌝ }
-{
-    match x {
-        Scalar::U8(n) => kinds::file_type(n as u64),
-        Scalar::I8(n) => signed_type(n as i64),
-        Scalar::U16(n) => kinds::file_type(n as u64),
-        Scalar::I16(n) => signed_type(n as i64),
-        Scalar::U32(n) => kinds::file_type(n as u64),
-        Scalar::I32(n) => signed_type(n as i64),
-        Scalar::F32(_) => FileKind::Unknown,
-        Scalar::Bool(_) => FileKind::Unknown,
-        Scalar::U64(n) => kinds::file_type(n),
-        Scalar::I64(n) => signed_type(n),
-        Scalar::F64(_) => FileKind::Unknown,
+    match n {
+        Natural::None => FileTypeTold::Unknown,
+        Natural::Number { value } => {
+            if 24 < value {
+                return FileTypeTold::Unknown;
+            }
+            FileTypeTold::Known { number: value }
+        }
     }
 }
 
@@ -210,10 +194,7 @@ fn file_type_in(found: Lookup) -> FileTypeTold
             match v {
                 Value::Text(_) => FileTypeTold::Unknown,
                 Value::Array(_) => FileTypeTold::Unknown,
-                Value::Single(x) => match scalar_file_type(x) {
-                    FileKind::Unknown => FileTypeTold::Unknown,
-                    FileKind::Number { number } => FileTypeTold::Known { number },
-                },
+                Value::Single(x) => file_type_of(scalars::natural_of(x)),
             }
         }
     }

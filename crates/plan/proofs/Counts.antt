@@ -5,7 +5,7 @@ use mathlib.Core.Bool.{Bool, true, false}
 use native.Mathlib.Omega.{arith}
 use lib.Dec.{leb}
 use borrow.Author.Tests.{eq-eqb, le-leb, lt-leb, leb-true, leb-false}
-use Rattle.records.specs.declared.Dialect.{Dialect}
+use Rattle.values.specs.declared.Dialect.{Dialect}
 use Rattle.plan.specs.Plan.{countsFit}
 
 module _ (k : Dialect) (n m x most : ℕ) (one : k .version ≡ 1) (sum : most + x ≡ 4294967295) where

@@ -8,18 +8,19 @@ use native.Mathlib.Omega.{arith}
 use lib.Dec.{leb, eqb}
 use lib.ListN.{length, length-map}
 use borrow.Author.Tests.{le-leb, lt-leb, leb-true, leb-false, eqb-false}
-use Rattle.fields.specs.Back.{got}
-use Rattle.fields.specs.Bytes.{rows}
-use Rattle.fields.specs.Choice.{if_then_else_}
-use Rattle.fields.specs.Each.{times}
+use Rattle.reading.specs.Back.{got, rows}
+use Rattle.reading.specs.Choice.{if_then_else_}
+use Rattle.reading.specs.Each.{times}
 use Rattle.fields.specs.Order.{before}
-use Rattle.fields.specs.Reading.{Answer, accepted, refused, run, isAccepted}
+use Rattle.reading.specs.Reading.{Answer, accepted, refused, run, isAccepted}
 use Rattle.layout.specs.Layout.{nothingLaid}
 use Rattle.layout.specs.Padding.{padded}
 use Rattle.layout.proofs.Padding.{padded-above}
-use Rattle.records.specs.declared.Dialect.{Dialect}
-use Rattle.records.specs.Format.{alignmentKey, sizeWidth, scalarWidth, depth}
-use Rattle.records.specs.Contents.{Entered, entryBytes, tensorBytes}
+use Rattle.values.specs.declared.Dialect.{Dialect}
+use Rattle.values.specs.Format.{alignmentKey, sizeWidth, depth}
+use Rattle.scalars.specs.Scalars.{scalarWidth}
+use Rattle.values.specs.Contents.{Entered, entryBytes}
+use Rattle.tensors.specs.Contents.{tensorBytes}
 use Rattle.sheet.specs.Format.{Line, metadata, tensor}
 use Rattle.sheet.specs.Sheet.{Records, sheetOf}
 use Rattle.sheet.proofs.Whole.{sheet-entries, sheet-tensors}

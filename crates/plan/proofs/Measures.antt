@@ -8,19 +8,19 @@ use native.Mathlib.Nat.{suc-mul}
 use lib.Dec.{leb, ltb, eqb}
 use lib.ListN.{length}
 use borrow.Author.Tests.{eqb-true, eq-eqb, ne-eqb}
-use Rattle.fields.specs.Back.{Sure}
-use Rattle.fields.specs.Bytes.{rows}
-use Rattle.fields.specs.Choice.{if_then_else_}
-use Rattle.fields.specs.Each.{each, times}
-use Rattle.fields.specs.Reading.{Answer, accepted, refused, run, isAccepted}
+use Rattle.reading.specs.Back.{Sure, rows}
+use Rattle.reading.specs.Choice.{if_then_else_}
+use Rattle.reading.specs.Each.{each, times}
+use Rattle.reading.specs.Reading.{Answer, accepted, refused, run, isAccepted}
 use Rattle.fields.specs.Value.{widthOf, number}
 use Rattle.fields.specs.declared.Width.{Width}
 use Rattle.fields.proofs.Before.{clash}
-use Rattle.fields.proofs.Sure.{sure-then, sure-done, sure-refuse, sure-here, sure-check, sure-if, sure-run, whatever}
-use Rattle.records.specs.declared.Dialect.{Dialect}
-use Rattle.records.specs.Format.{sizeWidth, scalarWidth, depth}
-use Rattle.records.specs.Contents.{Said, Content, one, word, list, saidBytes}
-use Rattle.records.proofs.Texts.{bytes-length}
+use Rattle.reading.proofs.Sure.{sure-then, sure-done, sure-refuse, sure-here, sure-check, sure-if, sure-run, whatever}
+use Rattle.values.specs.declared.Dialect.{Dialect}
+use Rattle.values.specs.Format.{sizeWidth, depth}
+use Rattle.scalars.specs.Scalars.{scalarWidth}
+use Rattle.values.specs.Contents.{Said, Content, one, word, list, saidBytes}
+use Rattle.values.proofs.Texts.{bytes-length}
 use Rattle.header.specs.Contents.{alignmentSaid}
 use Rattle.sheet.specs.Format.{Text, scalar, itemType, array, item, value}
 use Rattle.sheet.specs.Sheet.{stepOf}

@@ -6,15 +6,19 @@ use mathlib.Core.List.{List, [], _∷_, _++_}
 use native.Mathlib.Omega.{arith}
 use lib.Dec.{eqb, ltb}
 use lib.ListN.{length, length-append}
-use Rattle.fields.specs.Choice.{if_then_else_}
-use Rattle.fields.specs.Bytes.{bytesOf, rows}
+use Rattle.reading.specs.Choice.{if_then_else_}
+use Rattle.fields.specs.Bytes.{bytesOf}
+use Rattle.reading.specs.Back.{rows}
 use Rattle.fields.proofs.Bytes.{length-bytesOf}
-use Rattle.records.specs.declared.Dialect.{Dialect}
-use Rattle.records.specs.declared.Shape.{Shape}
-use Rattle.records.specs.Format.{sizeWidth, scalarWidth, depth}
-use Rattle.records.specs.Contents.{Content, one, word, list, Entered, Weight, sizeBytes, textBytes, typeBytes, typeOf, saidBytes, entryBytes, lengthBytes, shapeBytes, storedBytes, tensorBytes}
-use Rattle.header.specs.declared.Start.{Start}
-use Rattle.header.specs.Contents.{Sheet, startBytes, headerBytes}
+use Rattle.values.specs.declared.Dialect.{Dialect}
+use Rattle.tensors.specs.declared.Shape.{Shape}
+use Rattle.values.specs.Format.{sizeWidth, depth}
+use Rattle.scalars.specs.Scalars.{scalarWidth}
+use Rattle.values.specs.Contents.{Content, one, word, list, Entered, sizeBytes, textBytes, typeBytes, typeOf, saidBytes, entryBytes}
+use Rattle.tensors.specs.Contents.{Weight, lengthBytes, shapeBytes, storedBytes, tensorBytes}
+use Rattle.start.specs.declared.Start.{Start}
+use Rattle.header.specs.Contents.{Sheet, headerBytes}
+use Rattle.start.specs.Contents.{startBytes}
 use Rattle.sheet.proofs.Parts.{eights}
 
 -- a size has 4 bytes or 8

@@ -6,10 +6,10 @@ use mathlib.Core.List.{List, map}
 use native.Mathlib.Omega.{arith}
 use lib.ListN.{length}
 use borrow.Author.Tests.{eq-eqb, ne-eqb, le-leb, lt-leb}
-use Rattle.fields.specs.Choice.{if_then_else_}
-use Rattle.fields.specs.Reading.{Answer, accepted, refused, isAccepted}
+use Rattle.reading.specs.Choice.{if_then_else_}
+use Rattle.reading.specs.Reading.{Answer, accepted, refused, isAccepted}
 use Rattle.layout.specs.Layout.{layoutOf}
-use Rattle.records.specs.declared.Dialect.{Dialect}
+use Rattle.values.specs.declared.Dialect.{Dialect}
 use Rattle.sheet.specs.declared.Checked.the-variants.{Whole, Bad}
 use Rattle.sheet.specs.Sheet.{Records, sheetOf, checkedOf}
 use Rattle.sheet.proofs.Refusals.{sheet-only}

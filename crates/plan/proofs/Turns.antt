@@ -8,21 +8,22 @@ use native.Mathlib.Numerals.{add-one}
 use lib.Dec.{leb}
 use lib.ListN.{length, length-append}
 use borrow.Author.Tests.{leb-true}
-use Rattle.fields.specs.Back.{got, Sure}
-use Rattle.fields.specs.Bytes.{rows}
-use Rattle.fields.specs.Choice.{if_then_else_}
-use Rattle.fields.specs.Each.{times, fold}
-use Rattle.fields.specs.Reading.{Reading, accepted, run, isAccepted}
-use Rattle.fields.proofs.Sure.{sure-then, sure-done, sure-check, sure-so, whatever}
-use Rattle.fields.proofs.Turns.{times-ends, times-never, times-accepted, times-got}
+use Rattle.reading.specs.Back.{got, Sure, rows}
+use Rattle.reading.specs.Choice.{if_then_else_}
+use Rattle.reading.specs.Each.{times, fold}
+use Rattle.reading.specs.Reading.{Reading, accepted, run, isAccepted}
+use Rattle.reading.proofs.Sure.{sure-then, sure-done, sure-check, sure-so, whatever}
+use Rattle.reading.proofs.Turns.{times-ends, times-never, times-accepted, times-got}
 use Rattle.layout.specs.declared.Laid.{Laid}
 use Rattle.layout.specs.declared.Placed.the-variants.{At, Refused}
 use Rattle.layout.specs.Layout.{Layout, laidOut, refusedAt, ahead, nothingLaid, placeOf, layoutFrom}
 use Rattle.layout.proofs.Places.{layout-end, layout-stops, layout-goes-on}
-use Rattle.records.specs.declared.Dialect.{Dialect}
-use Rattle.records.specs.Format.{isWord, alignmentKey, sizeWidth, depth, lengths, lengthsOf}
-use Rattle.records.specs.Contents.{saidBytes, entryBytes, textBytes, shapeBytes, storedBytes, tensorBytes, insideOf}
-use Rattle.records.proofs.Texts.{bytes-length}
+use Rattle.values.specs.declared.Dialect.{Dialect}
+use Rattle.values.specs.Format.{isWord, alignmentKey, sizeWidth, depth}
+use Rattle.tensors.specs.Format.{lengths, lengthsOf}
+use Rattle.values.specs.Contents.{saidBytes, entryBytes, textBytes, insideOf}
+use Rattle.tensors.specs.Contents.{shapeBytes, storedBytes, tensorBytes}
+use Rattle.values.proofs.Texts.{bytes-length}
 use Rattle.header.specs.Contents.{alignmentSaid}
 use Rattle.sheet.specs.declared.EntryParts.{EntryParts}
 use Rattle.sheet.specs.declared.TensorParts.{TensorParts}

@@ -4,16 +4,18 @@ use mathlib.Core.Bool.{Bool, false, not}
 use mathlib.Core.List.{List, [], _∷_, map}
 use lib.Dec.{eqb}
 use lib.ListN.{length}
-use Rattle.fields.specs.Choice.{if_then_else_}
-use Rattle.fields.specs.Each.{fold}
+use Rattle.reading.specs.Choice.{if_then_else_}
+use Rattle.reading.specs.Each.{fold}
 use Rattle.fields.specs.Order.{before}
-use Rattle.fields.specs.Reading.{Answer, accepted, refused}
+use Rattle.reading.specs.Reading.{Answer, accepted, refused}
 use Rattle.layout.specs.declared.Laid.{Laid}
 use Rattle.layout.specs.Padding.{padded}
 use Rattle.layout.specs.Layout.{Piece, nothingLaid, laidAfter}
-use Rattle.records.specs.declared.Dialect.{Dialect}
-use Rattle.records.specs.Format.{isWord, alignmentKey, lengths}
-use Rattle.records.specs.Contents.{Said, one, word, Entered, Weight}
+use Rattle.values.specs.declared.Dialect.{Dialect}
+use Rattle.values.specs.Format.{isWord, alignmentKey}
+use Rattle.tensors.specs.Format.{lengths}
+use Rattle.values.specs.Contents.{Said, one, word, Entered}
+use Rattle.tensors.specs.Contents.{Weight}
 use Rattle.header.specs.Contents.{Sheet, headerBytes, alignmentSaid}
 use Rattle.sheet.specs.Format.{Line, Drawn}
 use Rattle.sheet.specs.Sheet.{Records}

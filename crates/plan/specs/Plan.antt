@@ -12,11 +12,11 @@ use mathlib.Core.Bool.{Bool, true, false}
 use mathlib.Core.List.{List, map}
 use lib.Dec.{leb, eqb}
 use lib.ListN.{length}
-use Rattle.fields.specs.Choice.{if_then_else_}
-use Rattle.fields.specs.Reading.{Answer, accepted, refused}
+use Rattle.reading.specs.Choice.{if_then_else_}
+use Rattle.reading.specs.Reading.{Answer, accepted, refused}
 use Rattle.layout.specs.Layout.{Layout, laidOut, refusedAt, layoutOf}
-use Rattle.records.specs.declared.Dialect.{Dialect}
-use Rattle.header.specs.Format.{knownVersion}
+use Rattle.values.specs.declared.Dialect.{Dialect}
+use Rattle.start.specs.Format.{knownVersion}
 use Rattle.sheet.specs.Sheet.{Records, sheetOf}
 use Rattle.plan.specs.declared.SaidAlignment.{SaidAlignment}
 use Rattle.plan.specs.declared.SaidAlignment.the-variants.{By, Absent}

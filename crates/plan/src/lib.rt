@@ -4,9 +4,9 @@ use fields::Width;
 use kinds::Whole;
 use layout::Laid;
 use layout::Placed;
-use records::Dialect;
-use records::ScalarWidth;
-use records::Value;
+use values::Dialect;
+use scalars::ScalarWidth;
+use values::Value;
 use sheet::Checked;
 use sheet::EntryFound;
 use sheet::EntryParts;
@@ -17,14 +17,15 @@ ghost use mathlib.Core.Bool.{true, false};
 ghost use mathlib.Core.List.{map};
 ghost use Prim.Native.Nat.{ℕ, suc, _+_, _*_, _≤_};
 ghost use lib.ListN.{length};
-ghost use Rattle.fields.specs.Choice.{if_then_else_};
-ghost use Rattle.fields.specs.Reading.{run, isAccepted};
-ghost use Rattle.fields.specs.Each.{times};
-ghost use Rattle.fields.specs.Back.{got};
-ghost use Rattle.fields.specs.Bytes.{rows};
+ghost use Rattle.reading.specs.Choice.{if_then_else_};
+ghost use Rattle.reading.specs.Reading.{run, isAccepted};
+ghost use Rattle.reading.specs.Each.{times};
+ghost use Rattle.reading.specs.Back.{got, rows};
 ghost use Rattle.layout.specs.Layout.{placeOf, layoutOf};
-ghost use Rattle.records.specs.Format.{isWord, alignmentKey, depth, sizeWidth, lengths};
-ghost use Rattle.records.specs.Contents.{saidBytes, entryBytes, tensorBytes};
+ghost use Rattle.values.specs.Format.{isWord, alignmentKey, depth, sizeWidth};
+ghost use Rattle.tensors.specs.Format.{lengths};
+ghost use Rattle.values.specs.Contents.{saidBytes, entryBytes};
+ghost use Rattle.tensors.specs.Contents.{tensorBytes};
 ghost use Rattle.header.specs.Contents.{alignmentSaid};
 ghost use Rattle.sheet.specs.Format as format;
 ghost use Rattle.sheet.specs.declared.Stepped.the-variants.{To};
@@ -79,7 +80,7 @@ fn is_alignment(text: &[u8]) -> bool
     if text.len() != 17 {
         return false;
     }
-    records::begins_at(text, 0, b"general.alignment")
+    values::begins_at(text, 0, b"general.alignment")
 }
 
 // The alignment that a value gives a reader. It is of the type form and ends at end.
@@ -87,12 +88,12 @@ fn value_alignment(s: &[u8], at: usize, end: usize, form: u64) -> u64
     requires { ⌜ isAccepted (run (format.value end form) (now s) at) ≡ true ⌝ }
     ensures { λ r. ⌜ r ≡ alignmentSaid (header_of.heard (run (format.value end form) (now (s .entry)) at)) ⌝ }
 {
-    match records::scalar_width(form) {
+    match scalars::scalar_width(form) {
         ScalarWidth::None => 32,
         ScalarWidth::Of { width } => match fields::number_at(s, at, width, true) {
             Number::Refused { why: _, place: _ } => 32,
             Number::Value { value, next: _ } => {
-                header::alignment_of(Value::Single(records::scalar_of(form, value)))
+                header::alignment_of(Value::Single(scalars::scalar_of(form, value)))
             }
         },
     }
@@ -113,7 +114,7 @@ fn said_alignment(s: &[u8], n: usize) -> SaidAlignment
             }
             EntryFound::Found { parts, next } => {
                 let key = parts.key;
-                if is_alignment(records::inside(s, key)) {
+                if is_alignment(values::inside(s, key)) {
                     said = SaidAlignment::By {
                         alignment: value_alignment(s, parts.value, next, parts.form),
                     };

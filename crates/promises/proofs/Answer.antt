@@ -4,12 +4,15 @@ use mathlib.Core.Path.{_≡_, refl, sym, ap, _∙_}
 use mathlib.Core.List.{List, _++_, map}
 use native.Mathlib.Omega.{arith}
 use lib.ListN.{length, length-map}
-use Rattle.fields.specs.Back.{All, Byte}
-use Rattle.fields.specs.Reading.{Answer, accepted, refused, seen}
-use Rattle.records.specs.declared.Dialect.{Dialect}
-use Rattle.records.specs.Contents.{enteredOf, weightOf}
+use Rattle.reading.specs.Back.{All}
+use Rattle.fields.specs.Bytes.{Byte}
+use Rattle.reading.specs.Reading.{Answer, accepted, refused, seen}
+use Rattle.values.specs.declared.Dialect.{Dialect}
+use Rattle.values.specs.Contents.{enteredOf}
+use Rattle.tensors.specs.Contents.{weightOf}
 use Rattle.header.specs.declared.Header.{Header}
-use Rattle.header.specs.Answers.{full, wholeOf}
+use Rattle.reading.specs.Ceilings.{full}
+use Rattle.header.specs.Answers.{wholeOf}
 use Rattle.header.specs.Contents.{Told, toldIn, dialectOf}
 use Rattle.header.specs.Format.{Whole}
 use Rattle.header.proofs.Counted.{counted}

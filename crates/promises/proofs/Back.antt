@@ -5,9 +5,10 @@ use mathlib.Core.Path.{_≡_, refl, sym, ap, subst, _∙_}
 use mathlib.Core.List.{List, _++_, append-assoc}
 use native.Mathlib.Omega.{arith}
 use lib.ListN.{length, drop, replicate}
-use Rattle.fields.specs.Back.{All, Byte}
-use Rattle.fields.specs.Reading.{accepted}
-use Rattle.records.specs.declared.Dialect.{Dialect}
+use Rattle.reading.specs.Back.{All}
+use Rattle.fields.specs.Bytes.{Byte}
+use Rattle.reading.specs.Reading.{accepted}
+use Rattle.values.specs.declared.Dialect.{Dialect}
 use Rattle.header.specs.Contents.{Sheet, headerBytes, told}
 use Rattle.header.proofs.Back.{reader-back}
 use Rattle.plan.specs.declared.Plan.{Plan}

@@ -7,11 +7,11 @@ use native.Mathlib.Omega.{arith}
 use borrow.Author.Tests.{leb-true}
 use lib.Dec.{leb, eqb}
 use lib.ListN.{length, length-append}
-use Rattle.fields.specs.Back.{Along, All, Byte}
-use Rattle.fields.specs.Bytes.{rows}
-use Rattle.fields.specs.Choice.{if_then_else_}
+use Rattle.reading.specs.Back.{Along, All, rows}
+use Rattle.fields.specs.Bytes.{Byte, Within}
+use Rattle.reading.specs.Choice.{if_then_else_}
 use Rattle.fields.specs.Order.{before}
-use Rattle.fields.proofs.Sure.{all-map}
+use Rattle.reading.proofs.Sure.{all-map}
 use Rattle.kinds.specs.Shape.{greatest}
 use Rattle.kinds.proofs.Rows.{written-known}
 use Rattle.layout.specs.declared.Laid.{Laid}
@@ -19,11 +19,14 @@ use Rattle.layout.specs.declared.Placed.{Placed}
 use Rattle.layout.specs.declared.Placed.the-variants.{At, Refused as NotPlaced}
 use Rattle.layout.specs.Layout.{nothingLaid, placeOf, layoutFrom}
 use Rattle.layout.proofs.Places.{layout-stops, layout-goes-on, placed-by}
-use Rattle.records.specs.declared.Dialect.{Dialect}
-use Rattle.records.specs.Format.{sizeWidth, alignmentKey, scalarWidth, lengths}
-use Rattle.records.specs.Contents.{Entered, Weight, entryBytes, textBytes, shapeBytes, storedBytes, tensorBytes, Within, Short, FitsEntry, FitsShape, FitsTensor, totalWith}
-use Rattle.records.proofs.Scalars.{scalar-fits}
-use Rattle.header.specs.declared.Rooms.{Rooms}
+use Rattle.values.specs.declared.Dialect.{Dialect}
+use Rattle.values.specs.Format.{sizeWidth, alignmentKey}
+use Rattle.scalars.specs.Scalars.{scalarWidth}
+use Rattle.tensors.specs.Format.{lengths}
+use Rattle.values.specs.Contents.{Entered, entryBytes, textBytes, Short, FitsEntry}
+use Rattle.tensors.specs.Contents.{Weight, shapeBytes, storedBytes, tensorBytes, FitsShape, FitsTensor, totalWith}
+use Rattle.scalars.proofs.Bits.{scalar-fits}
+use Rattle.start.specs.declared.Rooms.{Rooms}
 use Rattle.header.specs.Contents.{headerBytes, alignmentIn, FitsSheet}
 use Rattle.sheet.specs.Format.{Line, Drawn}
 use Rattle.sheet.proofs.Fits.{sheet-fits, drawn-fit}

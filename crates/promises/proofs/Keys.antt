@@ -4,14 +4,14 @@ use mathlib.Core.Path.{_≡_, refl, sym, ap, subst}
 use mathlib.Core.Bool.{Bool, true, false}
 use mathlib.Core.List.{List, [], _∷_, map}
 use lib.ListN.{length}
-use Rattle.fields.specs.Back.{All}
-use Rattle.fields.specs.Choice.{if_then_else_}
+use Rattle.reading.specs.Back.{All}
+use Rattle.reading.specs.Choice.{if_then_else_}
 use Rattle.fields.specs.Order.{before}
 use Rattle.fields.proofs.Before.{clash, neither}
-use Rattle.fields.proofs.Sure.{all-map}
-use Rattle.records.specs.declared.Dialect.{Dialect}
-use Rattle.records.specs.Format.{isWord, alignmentKey}
-use Rattle.records.specs.Contents.{Entered}
+use Rattle.reading.proofs.Sure.{all-map}
+use Rattle.values.specs.declared.Dialect.{Dialect}
+use Rattle.values.specs.Format.{isWord, alignmentKey}
+use Rattle.values.specs.Contents.{Entered}
 use Rattle.sheet.specs.Format.{Line}
 use Rattle.sheet.proofs.Whole.{Ascending, sheet-ascending}
 use Rattle.plan.specs.Header.{saidIn, adds, alignmentEntry, inserted, enteredIn, entriesWith, entriesOf, sheetFor, recordsIn}

@@ -1,14 +1,18 @@
 -- The known numbers, all of one table: the checker computes each from the definitions. Assumes nothing.
 use mathlib.Core.Path.{refl}
-use Rattle.fields.specs.Bytes.{little, bytesOf, rows}
-use Rattle.fields.specs.Each.{each}
-use Rattle.fields.specs.Reading.{run, _>>=_, here, andThen}
+use Rattle.fields.specs.Bytes.{little, bytesOf}
+use Rattle.reading.specs.Back.{rows}
+use Rattle.reading.specs.Each.{each}
+use Rattle.reading.specs.Reading.{run, here, andThen}
 use Rattle.fields.specs.Value.{number}
 use Rattle.kinds.specs.Table.{blockOf}
 use Rattle.layout.specs.Layout.{placeOf, layoutFrom}
-use Rattle.records.specs.Format.{scalarWidth, lengthAt, lengthsOf}
-use Rattle.records.specs.Contents.{sizeBytes, textBytes, typeBytes, saidBytes, entryBytes, lengthBytes, shapeBytes, storedBytes, tensorBytes}
-use Rattle.header.specs.Contents.{startBytes, headerBytes}
+use Rattle.scalars.specs.Scalars.{scalarWidth}
+use Rattle.tensors.specs.Format.{lengthAt, lengthsOf}
+use Rattle.values.specs.Contents.{sizeBytes, textBytes, typeBytes, saidBytes, entryBytes}
+use Rattle.tensors.specs.Contents.{lengthBytes, shapeBytes, storedBytes, tensorBytes}
+use Rattle.start.specs.Contents.{startBytes}
+use Rattle.header.specs.Contents.{headerBytes}
 use Rattle.header.proofs.Examples.{no-records, no-records-1, two-tensors, two-tensors-1}
 use Rattle.sheet.specs.Format.{bytes, textOf, text, opening, framed, shape, drawn, tensor}
 use Rattle.sheet.specs.Sheet.{asMany, entriesFrom, tensorsFrom, sheetOf}

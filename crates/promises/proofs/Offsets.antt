@@ -7,7 +7,7 @@ use native.Mathlib.Omega.{arith}
 use borrow.Author.Tests.{eqb-false}
 use lib.Dec.{eqb}
 use lib.ListN.{length, getD}
-use Rattle.fields.specs.Choice.{if_then_else_}
+use Rattle.reading.specs.Choice.{if_then_else_}
 use Rattle.layout.specs.declared.Laid.{Laid}
 use Rattle.layout.specs.declared.Placed.{Placed}
 use Rattle.layout.specs.declared.Placed.the-variants.{At, Refused}
@@ -15,9 +15,9 @@ use Rattle.layout.specs.Layout.{nothingLaid, placeOf, Layout, laidOut, refusedA
 use Rattle.layout.specs.Arrangement.{Arrangement}
 use Rattle.layout.proofs.Facts.{offsets-arranged, offsets-tight}
 use Rattle.layout.proofs.Places.{layout-end, layout-stops, layout-goes-on, placed-by}
-use Rattle.records.specs.declared.Dialect.{Dialect}
-use Rattle.records.specs.Format.{lengths}
-use Rattle.records.specs.Contents.{Weight}
+use Rattle.values.specs.declared.Dialect.{Dialect}
+use Rattle.tensors.specs.Format.{lengths}
+use Rattle.tensors.specs.Contents.{Weight}
 use Rattle.sheet.specs.Format.{Drawn}
 use Rattle.sheet.specs.Sheet.{Records, sheetOf}
 use Rattle.plan.specs.declared.LaidOut.the-variants.{Fits}

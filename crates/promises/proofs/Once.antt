@@ -6,40 +6,43 @@ use mathlib.Core.List.{List}
 use native.Mathlib.Omega.{arith}
 use Rattle.fields.specs.declared.Number.{Number}
 use Rattle.fields.specs.declared.Number.the-variants.{Value as FoundNumber, Refused as NoNumber}
-use Rattle.records.specs.declared.TextRead.{TextRead}
-use Rattle.records.specs.declared.TextRead.the-variants.{Found as FoundText, Refused as NoText}
-use Rattle.records.specs.declared.KeyRead.{KeyRead}
-use Rattle.records.specs.declared.KeyRead.the-variants.{Found as FoundKey, Refused as NoKey}
-use Rattle.records.specs.declared.Passed.{Passed}
-use Rattle.records.specs.declared.Passed.the-variants.{To as FoundPassed, Refused as NoPassed}
-use Rattle.records.specs.declared.ArrayRead.{ArrayRead}
-use Rattle.records.specs.declared.ArrayRead.the-variants.{Found as FoundArray, Refused as NoArray}
-use Rattle.records.specs.declared.ValueRead.{ValueRead}
-use Rattle.records.specs.declared.ValueRead.the-variants.{Found as FoundValue, Refused as NoValue}
-use Rattle.records.specs.declared.EntryRead.{EntryRead}
-use Rattle.records.specs.declared.EntryRead.the-variants.{Found as FoundEntry, Refused as NoEntry}
-use Rattle.records.specs.declared.ShapeRead.{ShapeRead}
-use Rattle.records.specs.declared.ShapeRead.the-variants.{Found as FoundShape, Refused as NoShape}
-use Rattle.records.specs.declared.StoredRead.{StoredRead}
-use Rattle.records.specs.declared.StoredRead.the-variants.{Found as FoundStored, Refused as NoStored}
-use Rattle.records.specs.declared.TensorRead.{TensorRead}
-use Rattle.records.specs.declared.TensorRead.the-variants.{Found as FoundTensor, Refused as NoTensor}
-use Rattle.header.specs.declared.MagicRead.{MagicRead}
-use Rattle.header.specs.declared.MagicRead.the-variants.{Found as FoundMagic, Refused as NoMagic}
-use Rattle.header.specs.declared.VersionRead.{VersionRead}
-use Rattle.header.specs.declared.VersionRead.the-variants.{Found as FoundVersion, Refused as NoVersion}
-use Rattle.header.specs.declared.StartRead.{StartRead}
-use Rattle.header.specs.declared.StartRead.the-variants.{Found as FoundStart, Refused as NoStart}
+use Rattle.values.specs.declared.TextRead.{TextRead}
+use Rattle.values.specs.declared.TextRead.the-variants.{Found as FoundText, Refused as NoText}
+use Rattle.values.specs.declared.KeyRead.{KeyRead}
+use Rattle.values.specs.declared.KeyRead.the-variants.{Found as FoundKey, Refused as NoKey}
+use Rattle.values.specs.declared.Passed.{Passed}
+use Rattle.values.specs.declared.Passed.the-variants.{To as FoundPassed, Refused as NoPassed}
+use Rattle.values.specs.declared.ArrayRead.{ArrayRead}
+use Rattle.values.specs.declared.ArrayRead.the-variants.{Found as FoundArray, Refused as NoArray}
+use Rattle.values.specs.declared.ValueRead.{ValueRead}
+use Rattle.values.specs.declared.ValueRead.the-variants.{Found as FoundValue, Refused as NoValue}
+use Rattle.values.specs.declared.EntryRead.{EntryRead}
+use Rattle.values.specs.declared.EntryRead.the-variants.{Found as FoundEntry, Refused as NoEntry}
+use Rattle.tensors.specs.declared.ShapeRead.{ShapeRead}
+use Rattle.tensors.specs.declared.ShapeRead.the-variants.{Found as FoundShape, Refused as NoShape}
+use Rattle.tensors.specs.declared.StoredRead.{StoredRead}
+use Rattle.tensors.specs.declared.StoredRead.the-variants.{Found as FoundStored, Refused as NoStored}
+use Rattle.tensors.specs.declared.TensorRead.{TensorRead}
+use Rattle.tensors.specs.declared.TensorRead.the-variants.{Found as FoundTensor, Refused as NoTensor}
+use Rattle.start.specs.declared.MagicRead.{MagicRead}
+use Rattle.start.specs.declared.MagicRead.the-variants.{Found as FoundMagic, Refused as NoMagic}
+use Rattle.start.specs.declared.VersionRead.{VersionRead}
+use Rattle.start.specs.declared.VersionRead.the-variants.{Found as FoundVersion, Refused as NoVersion}
+use Rattle.start.specs.declared.StartRead.{StartRead}
+use Rattle.start.specs.declared.StartRead.the-variants.{Found as FoundStart, Refused as NoStart}
 use Rattle.header.specs.declared.HeaderRead.{HeaderRead}
 use Rattle.header.specs.declared.HeaderRead.the-variants.{Found as FoundHeader, Refused as NoHeader}
 use Rattle.fields.specs.Bytes.{Wrote}
 use Rattle.fields.specs.Value.{widthOf, asNumber}
 use Rattle.fields.specs.declared.Width.{Width}
 use Rattle.fields.specs.declared.Width.the-variants.{One, Two, Four, Eight}
-use Rattle.records.specs.declared.ScalarWidth.{ScalarWidth}
-use Rattle.records.specs.declared.ScalarWidth.the-variants.{Of, None}
-use Rattle.records.specs.Answers.{asWidth, asText, asKey, asPassed, asArray, asValue, asEntry, asShape, asStored, asTensor}
-use Rattle.header.specs.Answers.{asMagic, asVersion, asStart, asHeader}
+use Rattle.scalars.specs.declared.ScalarWidth.{ScalarWidth}
+use Rattle.scalars.specs.declared.ScalarWidth.the-variants.{Of, None}
+use Rattle.scalars.specs.Scalars.{asWidth}
+use Rattle.values.specs.Answers.{asText, asKey, asPassed, asArray, asValue, asEntry}
+use Rattle.tensors.specs.Answers.{asShape, asStored, asTensor}
+use Rattle.start.specs.Answers.{asMagic, asVersion, asStart}
+use Rattle.header.specs.Answers.{asHeader}
 
 -- two results of one equation
 pub one-result : {A : Type 0} (x y : A) {definition : A} → x ≡ definition → y ≡ definition → x ≡ y

@@ -7,12 +7,12 @@ use native.Mathlib.Omega.{arith}
 use native.Mathlib.Nat.{mod-eq-of-lt}
 use borrow.Author.Tests.{leb-true, eqb-true}
 use lib.Dec.{leb, eqb}
-use Rattle.fields.specs.Back.{All}
-use Rattle.fields.specs.Choice.{if_then_else_}
-use Rattle.fields.specs.Each.{fold}
+use Rattle.reading.specs.Back.{All}
+use Rattle.reading.specs.Choice.{if_then_else_}
+use Rattle.reading.specs.Each.{fold}
 use Rattle.fields.specs.Order.{before}
-use Rattle.records.specs.Format.{isWord, alignmentKey}
-use Rattle.records.specs.Contents.{one}
+use Rattle.values.specs.Format.{isWord, alignmentKey}
+use Rattle.values.specs.Contents.{one}
 use Rattle.header.specs.Format.{usable}
 use Rattle.header.specs.Contents.{alignmentSaid, latestSaid, alignmentIn}
 use Rattle.sheet.specs.Format.{Line}

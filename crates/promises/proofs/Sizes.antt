@@ -4,17 +4,17 @@ use mathlib.Core.Path.{_≡_, refl}
 use mathlib.Core.List.{List, [], _∷_}
 use lib.Dec.{leb}
 use lib.ListN.{length}
-use Rattle.fields.specs.Back.{Along, All, Sure}
-use Rattle.fields.specs.Each.{fold}
-use Rattle.fields.specs.Reading.{accepted}
-use Rattle.fields.specs.declared.Limits.{Limits}
-use Rattle.fields.proofs.Sure.{sure-then, sure-done, sure-here, sure-check, sure-each, sure-under, whatever}
+use Rattle.reading.specs.Back.{Along, All, Sure}
+use Rattle.reading.specs.Each.{fold}
+use Rattle.reading.specs.Reading.{accepted}
+use Rattle.reading.specs.declared.Limits.{Limits}
+use Rattle.reading.proofs.Sure.{sure-then, sure-done, sure-here, sure-check, sure-each, sure-under, whatever}
 use Rattle.kinds.specs.Shape.{greatest, productOf, productsFit, sizeFits, sizeOf}
 use Rattle.layout.specs.Padding.{padded}
-use Rattle.records.specs.declared.Dialect.{Dialect}
-use Rattle.records.specs.declared.Tensor.{Tensor}
-use Rattle.records.specs.Format.{lengths, tensor, totalOf}
-use Rattle.header.specs.declared.Rooms.{Rooms}
+use Rattle.values.specs.declared.Dialect.{Dialect}
+use Rattle.tensors.specs.declared.Tensor.{Tensor}
+use Rattle.tensors.specs.Format.{lengths, tensor, totalOf}
+use Rattle.start.specs.declared.Rooms.{Rooms}
 use Rattle.header.specs.Answers.{wholeOf}
 use Rattle.header.specs.Format.{latest, Whole, header}
 

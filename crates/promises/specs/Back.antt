@@ -2,11 +2,12 @@
 use Prim.Native.Nat.{ℕ, _≤_}
 use mathlib.Core.List.{List, map}
 use lib.ListN.{length}
-use Rattle.fields.specs.Reading.{Answer, accepted, refused, seen}
+use Rattle.reading.specs.Reading.{Answer, accepted, refused, seen}
 use Rattle.layout.specs.Layout.{Piece}
-use Rattle.records.specs.declared.Dialect.{Dialect}
-use Rattle.records.specs.Contents.{Weight}
-use Rattle.header.specs.Answers.{full, wholeOf}
+use Rattle.values.specs.declared.Dialect.{Dialect}
+use Rattle.tensors.specs.Contents.{Weight}
+use Rattle.reading.specs.Ceilings.{full}
+use Rattle.header.specs.Answers.{wholeOf}
 use Rattle.header.specs.Contents.{Sheet, Told, toldIn}
 use Rattle.sheet.specs.Sheet.{sheetOf}
 use Rattle.plan.specs.Header.{pieceOf, sheetFor, recordsIn}

@@ -4,15 +4,16 @@ use mathlib.Core.Path.{_≡_}
 use mathlib.Core.List.{List, [], _∷_, _++_, map}
 use mathlib.Core.Bool.{false}
 use lib.ListN.{replicate}
-use Rattle.fields.specs.Reading.{accepted}
+use Rattle.reading.specs.Reading.{accepted}
 use Rattle.kinds.specs.declared.Measure.the-variants.{Bytes, Refused as Unmeasured}
 use Rattle.kinds.specs.Shape.{measureOf}
 use Rattle.layout.specs.Layout.{Piece, laidOut, layoutOf}
-use Rattle.records.specs.declared.Dialect.{Dialect}
-use Rattle.records.specs.declared.Tensor.{Tensor}
-use Rattle.records.specs.Rows.{tensorRow}
+use Rattle.values.specs.declared.Dialect.{Dialect}
+use Rattle.tensors.specs.declared.Tensor.{Tensor}
+use Rattle.tensors.specs.Rows.{tensorRow}
 use Rattle.header.specs.declared.Header.{Header}
-use Rattle.header.specs.Answers.{full, wholeOf}
+use Rattle.reading.specs.Ceilings.{full}
+use Rattle.header.specs.Answers.{wholeOf}
 use Rattle.ranges.specs.declared.RangeCheck.the-variants.{Inside, Refused as Outside}
 use Rattle.ranges.specs.Ranges.{checkFrom}
 use Rattle.writer.specs.declared.HeaderWritten.the-variants.{Written, Refused as NotWritten}

@@ -8,7 +8,7 @@ use native.Mathlib.Nat.{zero-add, add-zero}
 use lib.Dec.{leb}
 use lib.ListN.{length, getD}
 use borrow.Author.Tests.{le-leb, lt-leb, leb-true, leb-false}
-use Rattle.fields.specs.Choice.{if_then_else_}
+use Rattle.reading.specs.Choice.{if_then_else_}
 use Rattle.ranges.specs.Ranges.{endOf, checkFrom}
 use Rattle.ranges.specs.declared.RangeCheck.{RangeCheck}
 use Rattle.ranges.specs.declared.RangeCheck.the-variants.{Inside, Refused}

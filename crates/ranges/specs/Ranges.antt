@@ -3,7 +3,7 @@ use Prim.Native.Nat.{ℕ, suc, _+_}
 use mathlib.Core.List.{List, [], _∷_}
 use lib.Dec.{leb}
 use lib.ListN.{getD}
-use Rattle.fields.specs.Choice.{if_then_else_}
+use Rattle.reading.specs.Choice.{if_then_else_}
 use Rattle.ranges.specs.declared.RangeCheck.{RangeCheck}
 use Rattle.ranges.specs.declared.RangeCheck.the-variants.{Inside, Refused}
 

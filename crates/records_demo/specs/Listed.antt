@@ -1,9 +1,9 @@
 -- What the program lists of a header, beside the answer.
 use Prim.Native.Nat.{ℕ}
 use mathlib.Core.List.{List, [], _∷_}
-use Rattle.fields.specs.Each.{filled}
-use Rattle.fields.specs.Reading.{seen}
-use Rattle.header.specs.Answers.{full}
+use Rattle.reading.specs.Each.{filled}
+use Rattle.reading.specs.Reading.{seen}
+use Rattle.reading.specs.Ceilings.{full}
 use Rattle.header.specs.declared.HeaderRead.{HeaderRead}
 use Rattle.tensor_records.specs.Records.{gotAt, tensorRecord, listingOf}
 use Rattle.tensor_records.specs.declared.TensorRecord.{TensorRecord}

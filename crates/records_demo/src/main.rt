@@ -1,13 +1,14 @@
 // Reads the header of two tensors, a and b, into records, and prints the fields of each: the name's place and length, kind, dimension count, four lengths, offset
 // and size; beyond the last there is none. Then the same header without its last byte, which is refused and leaves the records blank.
-use fields::Limits;
+use reading::Limits;
 use header::HeaderRead;
 use tensor_records::RecordGot;
 use tensor_records::TensorRecord;
 ghost use mathlib.Core.Path.{_≡_};
 ghost use mathlib.Core.List.{[], _∷_};
-ghost use Rattle.fields.specs.Reading.{seen};
-ghost use Rattle.header.specs.Answers.{asHeader, full};
+ghost use Rattle.reading.specs.Reading.{seen};
+ghost use Rattle.header.specs.Answers.{asHeader};
+ghost use Rattle.reading.specs.Ceilings.{full};
 ghost use Rattle.tensor_records.specs.Records.{listingOf};
 ghost use Rattle.records_demo.specs.Listed.{recordsIn, listed};
 

@@ -3,18 +3,18 @@
 //
 // data/README.md says what the file of answers holds and how it is made. A function that compares takes the place that it has reached in a stored answer,
 // and answers the place after what agreed, or LOST, where nothing stands: so what comes after a difference differs too.
-use fields::Limits;
+use reading::Limits;
 use fields::Number;
 use fields::Width;
 use header::Header;
 use header::HeaderRead;
 use libc::STDOUT_FILENO;
-use records::Dialect;
-use records::Entry;
-use records::ScalarWidth;
-use records::Span;
-use records::TextRead;
-use records::Value;
+use values::Dialect;
+use values::Entry;
+use scalars::ScalarWidth;
+use values::Span;
+use values::TextRead;
+use values::Value;
 ghost use Prim.Native.Nat.{_≤_};
 
 // A place that no answer has.
@@ -61,15 +61,15 @@ fn same_word(answer: &[u8], at: usize, word: u64) -> usize {
 
 // Whether two texts are the same.
 fn is_same(a: &[u8], b: &[u8]) -> bool {
-    a.len() == b.len() && records::begins_at(a, 0, b)
+    a.len() == b.len() && values::begins_at(a, 0, b)
 }
 
 // A text.
 fn same_text(answer: &[u8], at: usize, text: &[u8]) -> usize {
-    match records::read_string(answer, at, plain()) {
+    match values::read_string(answer, at, plain()) {
         TextRead::Refused { why: _, place: _ } => LOST,
         TextRead::Found { span, next } => {
-            if is_same(records::inside(answer, span), text) {
+            if is_same(values::inside(answer, span), text) {
                 next
             } else {
                 LOST
@@ -80,7 +80,7 @@ fn same_text(answer: &[u8], at: usize, text: &[u8]) -> usize {
 
 // The text that two words of a row tell.
 fn text_in(input: &[u8], place: u64, len: u64) -> &[u8] {
-    records::inside(
+    values::inside(
         input,
         Span {
             place: place as usize,
@@ -145,16 +145,16 @@ fn word_of(t: u64, bits: u64) -> u64 {
     let entry = Entry {
         key: Span { place: 0, len: 0 },
         aligns: false,
-        value: Value::Single(records::scalar_of(t, bits)),
+        value: Value::Single(scalars::scalar_of(t, bits)),
     };
-    let row = records::entry_row(entry);
+    let row = values::entry_row(entry);
     row[3]
 }
 
 // The place after the item of an array that stands at a place of the input.
 fn after_item(input: &[u8], from: usize, t: u64, dialect: Dialect) -> usize {
     if t == 8 {
-        return match records::read_string(input, from, dialect) {
+        return match values::read_string(input, from, dialect) {
             TextRead::Refused { why: _, place: _ } => LOST,
             TextRead::Found { span: _, next } => next,
         };
@@ -167,7 +167,7 @@ fn after_item(input: &[u8], from: usize, t: u64, dialect: Dialect) -> usize {
 
 // The bits of a scalar of the type t at a place of the input.
 fn number_in(input: &[u8], from: usize, t: u64, dialect: Dialect) -> Number {
-    match records::scalar_width(t) {
+    match scalars::scalar_width(t) {
         ScalarWidth::None => Number::Refused {
             why: 1,
             place: from,
@@ -178,11 +178,11 @@ fn number_in(input: &[u8], from: usize, t: u64, dialect: Dialect) -> Number {
 
 // An item that is a text.
 fn same_text_item(answer: &[u8], at: usize, input: &[u8], from: usize, dialect: Dialect) -> usize {
-    match records::read_string(input, from, dialect) {
+    match values::read_string(input, from, dialect) {
         TextRead::Refused { why: _, place: _ } => LOST,
         TextRead::Found { span, next: _ } => {
             let p = same_word(answer, at, TEXT);
-            same_text(answer, p, records::inside(input, span))
+            same_text(answer, p, values::inside(input, span))
         }
     }
 }
@@ -286,10 +286,10 @@ fn same_entry(
     rows: &[[u64; 7]],
     dialect: Dialect,
 ) -> usize {
-    match records::read_string(answer, at, plain()) {
+    match values::read_string(answer, at, plain()) {
         TextRead::Refused { why: _, place: _ } => LOST,
         TextRead::Found { span, next } => {
-            let i = last_of(input, rows, records::inside(answer, span));
+            let i = last_of(input, rows, values::inside(answer, span));
             if i < rows.len() {
                 same_value(answer, next, input, rows[i], dialect)
             } else {
@@ -408,7 +408,7 @@ fn agrees(input: &[u8], answer: &[u8]) -> bool {
 
 // The place after a text of the sample.
 fn after_text(sample: &[u8], at: usize) -> usize {
-    match records::read_string(sample, at, plain()) {
+    match values::read_string(sample, at, plain()) {
         TextRead::Refused { why: _, place: _ } => LOST,
         TextRead::Found { span: _, next } => next,
     }
@@ -416,9 +416,9 @@ fn after_text(sample: &[u8], at: usize) -> usize {
 
 // A text of the sample; an empty one where it is not all there.
 fn text_at(sample: &[u8], at: usize) -> &[u8] {
-    match records::read_string(sample, at, plain()) {
+    match values::read_string(sample, at, plain()) {
         TextRead::Refused { why: _, place: _ } => &sample[0..0],
-        TextRead::Found { span, next: _ } => records::inside(sample, span),
+        TextRead::Found { span, next: _ } => values::inside(sample, span),
     }
 }
 

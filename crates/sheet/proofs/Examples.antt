@@ -2,11 +2,13 @@
 use Prim.Native.Nat.{ℕ, suc, _+_}
 use mathlib.Core.Path.{_≡_, refl}
 use mathlib.Core.List.{List, [], _∷_, _++_}
-use Rattle.fields.specs.Each.{each}
-use Rattle.fields.specs.Reading.{accepted, refused, run, _>>=_, here, andThen}
+use Rattle.reading.specs.Each.{each}
+use Rattle.reading.specs.Reading.{accepted, refused, run, here, andThen, _>>=_}
 use Rattle.fields.specs.Value.{number}
-use Rattle.records.specs.Contents.{one, word, list, Content}
-use Rattle.records.specs.Format.{scalarWidth, depth, lengthAt, lengthsOf}
+use Rattle.values.specs.Contents.{one, word, list, Content}
+use Rattle.scalars.specs.Scalars.{scalarWidth}
+use Rattle.values.specs.Format.{depth}
+use Rattle.tensors.specs.Format.{lengthAt, lengthsOf}
 use Rattle.sheet.specs.Format.{bytes, textOf, text, scalar, array, item, value, opening, framed, Line, keyed, metadata, shape, Drawn, drawn, tensor}
 use Rattle.sheet.specs.Sheet.{asMany, next, entriesFrom, tensorsFrom, sheetOf}
 

@@ -7,16 +7,20 @@ use native.Mathlib.Omega.{arith}
 use lib.Dec.{leb, ltb, eqb}
 use lib.ListN.{length, length-take}
 use borrow.Author.Tests.{leb-true, ltb-true, eqb-true}
-use Rattle.fields.specs.Back.{All, Byte, Sure}
-use Rattle.fields.specs.Choice.{if_then_else_}
-use Rattle.fields.specs.Reading.{Reading, accepted}
-use Rattle.fields.proofs.Sure.{sure-then, sure-done, sure-refuse, sure-here, sure-check, sure-if, sure-each, sure-number, sure-so, whatever}
-use Rattle.records.specs.Contents.{Content, typeOf, typeIn, Within, Short, FitsScalar, FitsSaid, FitsEntry, FitsShape}
-use Rattle.records.specs.Format.{sizeWidth, scalarWidth, depth}
-use Rattle.records.specs.declared.Dialect.{Dialect}
-use Rattle.records.proofs.Scalars.{scalar-fits}
-use Rattle.records.proofs.Sure.{sure-lengths}
-use Rattle.records.proofs.Types.{width-known, array-typed}
+use Rattle.reading.specs.Back.{All, Sure}
+use Rattle.fields.specs.Bytes.{Byte, Within}
+use Rattle.reading.specs.Choice.{if_then_else_}
+use Rattle.reading.specs.Reading.{Reading, accepted}
+use Rattle.reading.proofs.Sure.{sure-then, sure-done, sure-refuse, sure-here, sure-check, sure-if, sure-each, sure-so, whatever}
+use Rattle.fields.proofs.NumberFields.{sure-number}
+use Rattle.values.specs.Contents.{Content, typeOf, typeIn, Short, FitsSaid, FitsEntry}
+use Rattle.scalars.specs.Scalars.{FitsScalar, scalarWidth}
+use Rattle.tensors.specs.Contents.{FitsShape}
+use Rattle.values.specs.Format.{sizeWidth, depth}
+use Rattle.values.specs.declared.Dialect.{Dialect}
+use Rattle.scalars.proofs.Bits.{scalar-fits}
+use Rattle.tensors.proofs.Sure.{sure-lengths}
+use Rattle.scalars.proofs.Types.{width-known, array-typed}
 use Rattle.sheet.specs.Format.{Text, scalar, itemType, array, item, value, Line, keyed, metadata, bigEnd, shape, Drawn, drawn, tensor}
 use Rattle.sheet.specs.Sheet.{Records, sheetOf}
 use Rattle.sheet.proofs.Parts.{TextTold, sure-textOf, sure-text, sure-framed}

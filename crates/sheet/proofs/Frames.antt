@@ -7,9 +7,9 @@ use native.Mathlib.Omega.{arith}
 use lib.Dec.{leb, eqb}
 use lib.ListN.{length}
 use borrow.Author.Tests.{leb-false, ne-eqb}
-use Rattle.fields.specs.Choice.{if_then_else_}
-use Rattle.fields.specs.Reading.{Reading, done, Answer, accepted, refused, run, _>>=_, _>>_, here, check, andThen}
-use Rattle.fields.proofs.Laws.{goes-on, run-bind, stops, inside}
+use Rattle.reading.specs.Choice.{if_then_else_}
+use Rattle.reading.specs.Reading.{Reading, done, Answer, accepted, refused, run, _>>=_, _>>_, here, check, andThen}
+use Rattle.reading.proofs.Laws.{goes-on, run-bind, stops, inside}
 use Rattle.sheet.specs.Format.{opening, framed}
 use Rattle.sheet.specs.Sheet.{openedOf}
 use Rattle.sheet.specs.declared.Opened.the-variants.{Body, Bad}

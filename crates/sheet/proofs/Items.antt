@@ -6,13 +6,14 @@ use mathlib.Core.Bool.{true, false}
 use native.Mathlib.Omega.{arith}
 use lib.Dec.{ltb}
 use borrow.Author.Tests.{lt-ltb, le-ltb, ne-eqb}
-use Rattle.fields.specs.Reading.{done, accepted, refused, run, _>>=_, here, andThen}
+use Rattle.reading.specs.Reading.{done, accepted, refused, run, here, andThen, _>>=_}
 use Rattle.fields.specs.Value.{widthOf}
 use Rattle.fields.specs.declared.Width.{Width}
 use Rattle.fields.specs.declared.Width.the-variants.{One, Two, Four, Eight}
-use Rattle.fields.proofs.Laws.{run-bind}
-use Rattle.records.specs.Format.{scalarWidth, depth}
-use Rattle.records.specs.Contents.{one, word}
+use Rattle.reading.proofs.Laws.{run-bind}
+use Rattle.scalars.specs.Scalars.{scalarWidth}
+use Rattle.values.specs.Format.{depth}
+use Rattle.values.specs.Contents.{one, word}
 use Rattle.sheet.specs.Format.{textOf, text, scalar, array, item, value}
 
 some : (w : Width) → 0 < widthOf w

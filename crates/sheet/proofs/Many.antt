@@ -8,10 +8,10 @@ use native.Mathlib.Nat.{sub-zero}
 use lib.Dec.{leb, eqb}
 use lib.ListN.{List·getD-eq-default, length, getD}
 use borrow.Author.Tests.{leb-true, leb-false, le-leb}
-use Rattle.fields.specs.Back.{Sure}
-use Rattle.fields.specs.Reading.{Reading, Answer, accepted, refused, run, andThen}
-use Rattle.fields.proofs.Sure.{sure-then, sure-done, sure-check}
-use Rattle.records.specs.Contents.{insideOf}
+use Rattle.reading.specs.Back.{Sure}
+use Rattle.reading.specs.Reading.{Reading, Answer, accepted, refused, run, andThen}
+use Rattle.reading.proofs.Sure.{sure-then, sure-done, sure-check}
+use Rattle.values.specs.Contents.{insideOf}
 use Rattle.sheet.specs.Format.{Line, metadata}
 use Rattle.sheet.specs.Sheet.{asMany, countOf, isMetadata, Last, follows, next}
 use Rattle.sheet.specs.declared.Counted.{Counted}

@@ -8,15 +8,18 @@ use lib.Dec.{leb, ltb, eqb}
 use lib.ListN.{length, take, drop}
 use lib.Seq.{take-take}
 use borrow.Author.Tests.{leb-true, eqb-true}
-use Rattle.fields.specs.Back.{Sure}
-use Rattle.fields.specs.Choice.{if_then_else_}
-use Rattle.fields.specs.Reading.{Reading, done, refuse, place, field, known, Answer, accepted, refused, run}
+use Rattle.reading.specs.Back.{Sure}
+use Rattle.reading.specs.Choice.{if_then_else_}
+use Rattle.reading.specs.Reading.{Reading, done, refuse, place, field, known, Answer, accepted, refused, run}
 use Rattle.fields.specs.Value.{number}
-use Rattle.fields.proofs.Laws.{inside}
-use Rattle.fields.proofs.Sure.{sure-then, sure-done, sure-refuse, sure-here, sure-check, sure-if, sure-field, number-told, sure-run, whatever}
-use Rattle.records.specs.Contents.{typeOf, bytesAt, Content}
-use Rattle.records.specs.Format.{scalarWidth, depth, lengthAt, lengthsOf}
-use Rattle.records.specs.declared.Dialect.{Dialect}
+use Rattle.reading.proofs.Laws.{inside}
+use Rattle.reading.proofs.Sure.{sure-then, sure-done, sure-refuse, sure-here, sure-check, sure-if, sure-field, sure-run, whatever}
+use Rattle.fields.proofs.NumberFields.{number-told}
+use Rattle.values.specs.Contents.{typeOf, bytesAt, Content}
+use Rattle.scalars.specs.Scalars.{scalarWidth}
+use Rattle.values.specs.Format.{depth}
+use Rattle.tensors.specs.Format.{lengthAt, lengthsOf}
+use Rattle.values.specs.declared.Dialect.{Dialect}
 use Rattle.sheet.specs.Format.{bytes, Text, textOf, text, scalar, itemType, array, item, value, opening, framed, Line, keyed, metadata, shape, bigEnd, Drawn, drawn, tensor}
 
 onward-next : {A : Type 0} (r : Answer A) (p w : ℕ) (a : A) (q : ℕ) (b : Bool) → (accepted a q ≡ r → p + w ≤ q) → accepted a q ≡ (if b then r else refused 1 p) → p ≤ q

@@ -6,8 +6,8 @@ use mathlib.Core.List.{List, [], _∷_}
 use native.Mathlib.Omega.{arith}
 use lib.Dec.{eqb}
 use lib.ListN.{length, getD}
-use Rattle.fields.specs.Choice.{if_then_else_}
-use Rattle.fields.specs.Reading.{Reading, Answer, accepted, refused, run, andThen}
+use Rattle.reading.specs.Choice.{if_then_else_}
+use Rattle.reading.specs.Reading.{Reading, Answer, accepted, refused, run, andThen}
 use Rattle.sheet.specs.Format.{tensor}
 use Rattle.sheet.specs.Sheet.{consed, asMany, noKey, next, keyOf, isMetadata, goesOn, entriesFrom, tensorsFrom, Records, sheetOf}
 

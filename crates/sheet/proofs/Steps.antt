@@ -4,11 +4,11 @@ use mathlib.Core.Path.{_≡_, refl, sym, ap, _∙_}
 use mathlib.Core.List.{List}
 use native.Mathlib.Omega.{arith}
 use lib.ListN.{length}
-use Rattle.fields.specs.Reading.{Reading, Answer, accepted, refused, run, andThen, seen, passed}
-use Rattle.fields.specs.Each.{times}
-use Rattle.fields.proofs.Turns.{times-stops, times-passed}
-use Rattle.records.specs.declared.Shape.{Shape}
-use Rattle.records.specs.declared.Span.{Span}
+use Rattle.reading.specs.Reading.{Reading, Answer, accepted, refused, run, andThen, seen, passed}
+use Rattle.reading.specs.Each.{times}
+use Rattle.reading.proofs.Turns.{times-stops, times-passed}
+use Rattle.tensors.specs.declared.Shape.{Shape}
+use Rattle.values.specs.declared.Span.{Span}
 use Rattle.sheet.specs.Format.{Text, Line, Drawn}
 use Rattle.sheet.specs.Sheet.{stepOf, spanOf, entryOf, shapeOf, tensorOf, countOf}
 use Rattle.sheet.specs.declared.EntryParts.{EntryParts}

@@ -8,13 +8,13 @@ use native.Mathlib.Omega.{arith}
 use lib.Dec.{eqb}
 use lib.ListN.{List·getD-eq-default, length, getD}
 use borrow.Author.Tests.{ltb-false, le-ltb, eqb-true}
-use Rattle.fields.specs.Back.{Along, Sure}
-use Rattle.fields.specs.Choice.{if_then_else_}
-use Rattle.fields.specs.Each.{each, times}
+use Rattle.reading.specs.Back.{Along, Sure}
+use Rattle.reading.specs.Choice.{if_then_else_}
+use Rattle.reading.specs.Each.{each, times}
 use Rattle.fields.specs.Order.{before}
-use Rattle.fields.specs.Reading.{Reading, Answer, accepted, refused, run, andThen}
-use Rattle.fields.proofs.Laws.{goes-on, inside, bind-inv}
-use Rattle.fields.proofs.Sure.{sure-then, sure-done, sure-check, sure-each, sure-run, sure-so, whatever}
+use Rattle.reading.specs.Reading.{Reading, Answer, accepted, refused, run, andThen}
+use Rattle.reading.proofs.Laws.{goes-on, inside, bind-inv}
+use Rattle.reading.proofs.Sure.{sure-then, sure-done, sure-check, sure-each, sure-run, sure-so, whatever}
 use Rattle.sheet.specs.Format.{Line, metadata, Drawn, tensor}
 use Rattle.sheet.specs.Sheet.{consed, asMany, Last, noKey, lastKey, follows, next, keyOf, isMetadata, goesOn, entriesFrom, tensorsFrom, Records, sheetOf}
 use Rattle.sheet.proofs.Parts.{entry-ends, tensor-ends}

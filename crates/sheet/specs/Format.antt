@@ -6,15 +6,17 @@ use Prim.Native.Nat.{ℕ, zero, suc, _+_, _-_, _^_}
 use mathlib.Core.Bool.{Bool, true}
 use mathlib.Core.List.{List}
 use lib.Dec.{leb, ltb, eqb}
-use Rattle.fields.specs.Choice.{if_then_else_}
-use Rattle.fields.specs.Reading.{Reading, done, refuse, field, _>>=_, _>>_, here, check}
-use Rattle.fields.specs.Each.{times}
+use Rattle.reading.specs.Choice.{if_then_else_}
+use Rattle.reading.specs.Reading.{Reading, done, refuse, field, _>>=_, _>>_, here, check}
+use Rattle.reading.specs.Each.{times}
 use Rattle.fields.specs.Value.{number}
-use Rattle.records.specs.declared.Dialect.{Dialect}
-use Rattle.records.specs.declared.Span.{Span}
-use Rattle.records.specs.declared.Shape.{Shape}
-use Rattle.records.specs.Format.{scalarWidth, depth, lengthsOf}
-use Rattle.records.specs.Contents.{Said, one, word, list, Content, Entered}
+use Rattle.values.specs.declared.Dialect.{Dialect}
+use Rattle.values.specs.declared.Span.{Span}
+use Rattle.tensors.specs.declared.Shape.{Shape}
+use Rattle.scalars.specs.Scalars.{scalarWidth}
+use Rattle.values.specs.Format.{depth}
+use Rattle.tensors.specs.Format.{lengthsOf}
+use Rattle.values.specs.Contents.{Said, one, word, list, Content, Entered}
 use Rattle.sheet.specs.declared.EntryParts.{EntryParts}
 use Rattle.sheet.specs.declared.TensorParts.{TensorParts}
 

@@ -4,20 +4,21 @@
 // nothing: keys, names and values are places in it.
 use fields::Number;
 use fields::Width;
-use records::Dialect;
-use records::ScalarWidth;
-use records::Shape;
-use records::ShapeRead;
-use records::Span;
+use values::Dialect;
+use scalars::ScalarWidth;
+use tensors::Shape;
+use tensors::ShapeRead;
+use values::Span;
 ghost use mathlib.Core.Path.{_≡_};
 ghost use mathlib.Core.Bool.{true};
 ghost use Prim.Native.Nat.{_+_, _≤_, _<_};
 ghost use lib.ListN.{length};
-ghost use Rattle.fields.specs.Reading.{run, seen};
-ghost use Rattle.fields.specs.Each.{times};
+ghost use Rattle.reading.specs.Reading.{run, seen};
+ghost use Rattle.reading.specs.Each.{times};
 ghost use Rattle.fields.specs.Value.{widthOf, asNumber};
-ghost use Rattle.records.specs.Format.{scalarWidth, depth};
-ghost use Rattle.records.specs.Contents.{insideOf};
+ghost use Rattle.scalars.specs.Scalars.{scalarWidth};
+ghost use Rattle.values.specs.Format.{depth};
+ghost use Rattle.values.specs.Contents.{insideOf};
 ghost use Rattle.sheet.specs.Format as format;
 ghost use Rattle.sheet.specs.Sheet as sheet;
 
@@ -143,7 +144,7 @@ fn scalar_at(s: &[u8], at: usize, t: u64, width: Width) -> Number
 fn pass_item(s: &[u8], at: usize, t: u64) -> Stepped
     ensures { λ r. ⌜ r ≡ sheet.stepOf (run (format.item depth t) (now (s .entry)) at) ⌝ }
 {
-    match records::scalar_width(t) {
+    match scalars::scalar_width(t) {
         ScalarWidth::Of { width } => match scalar_at(s, at, t, width) {
             Number::Refused { why: _, place: _ } => Stepped::Bad,
             Number::Value { value: _, next } => Stepped::To { next },
@@ -208,7 +209,7 @@ fn pass_array(s: &[u8], at: usize) -> Stepped
 fn pass_value(s: &[u8], at: usize, end: usize, t: u64) -> Stepped
     ensures { λ r. ⌜ r ≡ sheet.stepOf (run (format.value end t) (now (s .entry)) at) ⌝ }
 {
-    match records::scalar_width(t) {
+    match scalars::scalar_width(t) {
         ScalarWidth::Of { width } => match scalar_at(s, at, t, width) {
             Number::Refused { why: _, place: _ } => Stepped::Bad,
             Number::Value { value: _, next } => Stepped::To { next },
@@ -312,7 +313,7 @@ fn shape_at(s: &[u8], at: usize) -> ShapeFound
     if 4 < n {
         return ShapeFound::Bad;
     }
-    match records::read_lengths(s, p, dialect, n) {
+    match tensors::read_lengths(s, p, dialect, n) {
         ShapeRead::Refused { why: _, place: _ } => ShapeFound::Bad,
         ShapeRead::Found { shape, next } => ShapeFound::Found { shape, next },
     }
@@ -371,8 +372,8 @@ fn key_follows(s: &[u8], last: Before, key: Span) -> bool
     match last {
         Before::None => true,
         Before::At { span } => {
-            let before = records::inside(s, span);
-            let own = records::inside(s, key);
+            let before = values::inside(s, span);
+            let own = values::inside(s, key);
             fields::comes_before(before, own)
         }
     }

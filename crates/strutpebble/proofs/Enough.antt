@@ -7,32 +7,35 @@ use lib.ListN.{length}
 use lib.Dec.{leb}
 use native.Mathlib.Omega.{arith}
 use borrow.Author.Tests.{le-leb}
-use Rattle.fields.specs.Back.{Sure}
-use Rattle.fields.specs.Ceilings.{under}
-use Rattle.fields.specs.Each.{each, times, fold}
-use Rattle.fields.specs.Reading.{Reading, done, Answer, accepted, refused, run, _>>=_, here, andThen, seen, passed}
-use Rattle.fields.specs.declared.Limits.{Limits}
-use Rattle.fields.proofs.Ceilings.{under-bind, run-under}
-use Rattle.fields.proofs.Laws.{run-bind}
-use Rattle.fields.proofs.Sure.{sure-then, sure-done, sure-here, sure-check, sure-run, sure-under, whatever}
-use Rattle.fields.proofs.Turns.{seen-accepted}
-use Rattle.records.specs.Format.{size, key, value, keeping, entry, tensor, totalOf}
-use Rattle.records.specs.declared.Dialect.{Dialect}
-use Rattle.records.specs.declared.Entry.{Entry}
-use Rattle.records.specs.declared.Key.{Key}
-use Rattle.records.specs.declared.Value.{Value}
+use Rattle.reading.specs.Back.{Sure}
+use Rattle.reading.specs.Ceilings.{under}
+use Rattle.reading.specs.Each.{each, times, fold}
+use Rattle.reading.specs.Reading.{Reading, done, Answer, accepted, refused, run, _>>=_, here, andThen, seen, passed}
+use Rattle.reading.specs.declared.Limits.{Limits}
+use Rattle.reading.proofs.Ceilings.{under-bind, run-under}
+use Rattle.reading.proofs.Laws.{run-bind}
+use Rattle.reading.proofs.Sure.{sure-then, sure-done, sure-here, sure-check, sure-run, sure-under, whatever}
+use Rattle.reading.proofs.Turns.{seen-accepted}
+use Rattle.values.specs.Format.{size, key, value, keeping, entry}
+use Rattle.tensors.specs.Format.{tensor, totalOf}
+use Rattle.values.specs.declared.Dialect.{Dialect}
+use Rattle.values.specs.declared.Entry.{Entry}
+use Rattle.values.specs.declared.Key.{Key}
+use Rattle.values.specs.declared.Value.{Value}
 use Rattle.header.specs.Answers.{toldOf, wholeOf}
-use Rattle.header.specs.Format.{latest, magic, version, counts, start, header}
+use Rattle.header.specs.Format.{latest, header}
+use Rattle.start.specs.Format.{magic, version, counts, start}
 use Rattle.header.specs.declared.Header.{Header}
 use Rattle.header.specs.declared.HeaderRead.{HeaderRead}
 use Rattle.header.specs.declared.HeaderRead.the-variants.{Found, Refused}
-use Rattle.header.specs.declared.Rooms.{Rooms}
-use Rattle.header.specs.declared.Start.{Start}
+use Rattle.start.specs.declared.Rooms.{Rooms}
+use Rattle.start.specs.declared.Start.{Start}
 use Rattle.header.proofs.Data.{kept-alignment}
-use Rattle.header.proofs.Starts.{under-counts}
-use Rattle.header.proofs.Whole.{Room, Started, Aligned, Ended, no-entries, no-tensors, no-data, reached}
+use Rattle.start.proofs.Low.{under-counts}
+use Rattle.start.proofs.RowsForCounts.{Room}
+use Rattle.header.proofs.Whole.{Started, Aligned, Ended, no-entries, no-tensors, no-data, reached}
 use Rattle.lookup.specs.Questions.{enough}
-use Rattle.strutpebble.specs.Numbers.{measured}
+use Rattle.words.specs.Words.{measured}
 
 -- an entry, of which the cap decides what is kept
 abbrev entryOf : ℕ → Key → Value → Entry

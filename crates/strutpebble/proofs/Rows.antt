@@ -4,21 +4,22 @@ use mathlib.Core.Path.{_≡_, refl, sym, ap, _∙_}
 use mathlib.Core.List.{List}
 use native.Mathlib.Omega.{arith}
 use lib.ListN.{getD}
-use Rattle.fields.specs.Back.{All, Byte}
-use Rattle.fields.specs.Reading.{Answer, accepted, refused}
-use Rattle.fields.specs.declared.Limits.{Limits}
-use Rattle.fields.proofs.Turns.{seen-refused}
-use Rattle.kinds.specs.declared.FileKind.{FileKind}
-use Rattle.kinds.specs.declared.FileKind.the-variants.{Number, Unknown}
-use Rattle.records.specs.declared.Value.{Value}
-use Rattle.records.specs.declared.Value.the-variants.{Single, Text, Array}
+use Rattle.reading.specs.Back.{All}
+use Rattle.fields.specs.Bytes.{Byte}
+use Rattle.reading.specs.Reading.{Answer, accepted, refused}
+use Rattle.reading.specs.declared.Limits.{Limits}
+use Rattle.reading.proofs.Turns.{seen-refused}
+use Rattle.lookup.specs.declared.FileKind.{FileKind}
+use Rattle.lookup.specs.declared.FileKind.the-variants.{Number, Unknown}
+use Rattle.values.specs.declared.Value.{Value}
+use Rattle.values.specs.declared.Value.the-variants.{Single, Text, Array}
 use Rattle.header.specs.declared.Header.{Header}
 use Rattle.header.proofs.Rows.{never-6}
 use Rattle.lookup.specs.Questions.{lookup, typeTold, valueFileType, tellType, fileTypeIn}
 use Rattle.lookup.specs.declared.Lookup.{Lookup}
 use Rattle.lookup.specs.declared.Lookup.the-variants.{Found, Absent, Refused}
 use Rattle.lookup.proofs.Rows.{lookup-never-6}
-use Rattle.strutpebble.specs.Numbers.{measured, numberOf, entryNumber, stringNumber, typeNumber}
+use Rattle.words.specs.Words.{measured, numberOf, entryNumber, stringNumber, typeNumber}
 
 -- `sp_measure`
 pub measured-never-6 : (limits : Limits) (s : List ℕ) → All Byte s → numberOf (measured limits s) ≡ 6 → ⊥

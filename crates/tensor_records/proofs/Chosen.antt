@@ -3,7 +3,7 @@
 use mathlib.Core.Path.{_≡_, refl}
 use mathlib.Core.Bool.{Bool, true, false, not}
 use lib.Dec.{T}
-use Rattle.fields.specs.Choice.{if_then_else_}
+use Rattle.reading.specs.Choice.{if_then_else_}
 
 pub held : (b : Bool) → T b → {A : Type 0} (x y : A) → (true ≡ b) × (x ≡ (if b then x else y))
 held true h x y = (refl, refl)

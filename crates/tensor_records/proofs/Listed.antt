@@ -5,11 +5,11 @@ use mathlib.Core.List.{List, [], _∷_, _++_, map}
 use native.Mathlib.Omega.{arith}
 use lib.ListN.{length, take, drop, length-take, length-map}
 use lib.Seq.{take-at}
-use Rattle.fields.specs.Each.{filled}
-use Rattle.fields.specs.Reading.{Answer, accepted, refused, seen}
-use Rattle.fields.specs.declared.Limits.{Limits}
-use Rattle.records.specs.Rows.{tensorRow}
-use Rattle.records.specs.declared.Tensor.{Tensor}
+use Rattle.reading.specs.Each.{filled}
+use Rattle.reading.specs.Reading.{Answer, accepted, refused, seen}
+use Rattle.reading.specs.declared.Limits.{Limits}
+use Rattle.tensors.specs.Rows.{tensorRow}
+use Rattle.tensors.specs.declared.Tensor.{Tensor}
 use Rattle.header.specs.Format.{Whole}
 use Rattle.header.specs.Answers.{asHeader}
 use Rattle.header.specs.declared.Header.{Header}

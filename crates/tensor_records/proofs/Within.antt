@@ -4,11 +4,12 @@ use mathlib.Core.Path.{_≡_, refl, sym, ap, _∙_}
 use mathlib.Core.List.{List, [], _∷_, _++_, map, append-assoc}
 use native.Mathlib.Omega.{arith}
 use lib.ListN.{length, take, drop, take-append-drop, length-take}
-use Rattle.fields.specs.Ceilings.{under}
-use Rattle.fields.specs.Each.{filled}
-use Rattle.fields.specs.Reading.{Answer, accepted, refused, run, seen}
-use Rattle.fields.specs.declared.Limits.{Limits}
-use Rattle.records.specs.Rows.{entryRow, tensorRow}
+use Rattle.reading.specs.Ceilings.{under}
+use Rattle.reading.specs.Each.{filled}
+use Rattle.reading.specs.Reading.{Answer, accepted, refused, run, seen}
+use Rattle.reading.specs.declared.Limits.{Limits}
+use Rattle.values.specs.Rows.{entryRow}
+use Rattle.tensors.specs.Rows.{tensorRow}
 use Rattle.header.specs.Format.{header, Whole}
 use Rattle.header.specs.Answers.{asHeader, wholeOf}
 use Rattle.header.specs.declared.HeaderRead.{HeaderRead}

@@ -4,11 +4,11 @@ use mathlib.Core.Bool.{Bool}
 use mathlib.Core.List.{List, [], _∷_}
 use lib.Dec.{ltb}
 use lib.ListN.{length, getD, set, take}
-use Rattle.fields.specs.Choice.{if_then_else_}
-use Rattle.fields.specs.Reading.{Answer}
-use Rattle.fields.specs.declared.Limits.{Limits}
-use Rattle.records.specs.Rows.{tensorRow}
-use Rattle.records.specs.declared.Tensor.{Tensor}
+use Rattle.reading.specs.Choice.{if_then_else_}
+use Rattle.reading.specs.Reading.{Answer}
+use Rattle.reading.specs.declared.Limits.{Limits}
+use Rattle.tensors.specs.Rows.{tensorRow}
+use Rattle.tensors.specs.declared.Tensor.{Tensor}
 use Rattle.header.specs.Format.{Whole}
 use Rattle.header.specs.Answers.{wholeOf}
 use Rattle.header.specs.declared.HeaderRead.{HeaderRead}

@@ -1,15 +1,16 @@
 // Tensor records in a lent slice of structs, above the rows of numbers.
 //
 // Each function here is thin: it takes the slice apart and leaves the work to functions over rows. Whoever is content with rows needs none of it.
-use fields::Limits;
+use reading::Limits;
 use header::HeaderRead;
 ghost use mathlib.Core.Path.{_≡_};
 ghost use mathlib.Core.List.{[]};
 ghost use Prim.Native.Nat.{_<_, min};
 ghost use lib.ListN.{length, getD, take};
-ghost use Rattle.fields.specs.Reading.{seen};
-ghost use Rattle.fields.specs.Each.{filled};
-ghost use Rattle.records.specs.Rows.{entryRow, tensorRow};
+ghost use Rattle.reading.specs.Reading.{seen};
+ghost use Rattle.reading.specs.Each.{filled};
+ghost use Rattle.values.specs.Rows.{entryRow};
+ghost use Rattle.tensors.specs.Rows.{tensorRow};
 ghost use Rattle.header.specs.Answers.{asHeader, wholeOf};
 ghost use Rattle.tensor_records.specs.Records.{recordOf, gotAt, keptOf, putAt, filledFrom, tensorsIn, tensorRecord, listingOf};
 

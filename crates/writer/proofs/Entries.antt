@@ -6,17 +6,16 @@ use mathlib.Core.List.{List, [], _∷_, _++_, map, append-assoc}
 use native.Mathlib.Nat.{sub-zero}
 use native.Mathlib.Omega.{arith}
 use lib.ListN.{length, take, drop, length-append}
-use Rattle.fields.specs.Back.{got}
-use Rattle.fields.specs.Bytes.{rows}
-use Rattle.fields.specs.Choice.{if_then_else_}
-use Rattle.fields.specs.Each.{times}
+use Rattle.reading.specs.Back.{got, rows}
+use Rattle.reading.specs.Choice.{if_then_else_}
+use Rattle.reading.specs.Each.{times}
 use Rattle.fields.specs.Order.{before}
-use Rattle.fields.specs.Reading.{Answer, accepted, refused, run, isAccepted}
-use Rattle.fields.proofs.Sure.{sure-each, whatever}
-use Rattle.fields.proofs.Turns.{times-accepted, times-got, times-ends}
-use Rattle.records.specs.Contents.{Entered, typeBytes, textBytes, saidBytes, entryBytes, insideOf}
-use Rattle.records.specs.Format.{sizeWidth, depth, alignmentKey}
-use Rattle.records.specs.declared.Dialect.{Dialect}
+use Rattle.reading.specs.Reading.{Answer, accepted, refused, run, isAccepted}
+use Rattle.reading.proofs.Sure.{sure-each, whatever}
+use Rattle.reading.proofs.Turns.{times-accepted, times-got, times-ends}
+use Rattle.values.specs.Contents.{Entered, typeBytes, textBytes, saidBytes, entryBytes, insideOf}
+use Rattle.values.specs.Format.{sizeWidth, depth, alignmentKey}
+use Rattle.values.specs.declared.Dialect.{Dialect}
 use Rattle.plan.specs.Header.{heard, inserted, enteredIn, alignmentEntry}
 use Rattle.sheet.specs.Format.{Line, value, metadata}
 use Rattle.sheet.specs.Sheet.{stepOf, entryOf}

@@ -7,31 +7,32 @@ use native.Mathlib.Omega.{arith}
 use borrow.Author.Tests.{leb-true}
 use lib.Dec.{leb}
 use lib.ListN.{length, drop, replicate, length-append, length-replicate}
-use Rattle.fields.specs.Back.{got}
-use Rattle.fields.specs.Bytes.{rows, Wrote}
-use Rattle.fields.specs.Choice.{if_then_else_}
-use Rattle.fields.specs.Each.{each, times}
-use Rattle.fields.specs.Reading.{Answer, accepted, refused, run, isAccepted, done, _>>=_}
-use Rattle.fields.proofs.Laws.{bind-inv}
+use Rattle.reading.specs.Back.{got, rows}
+use Rattle.fields.specs.Bytes.{Wrote}
+use Rattle.reading.specs.Choice.{if_then_else_}
+use Rattle.reading.specs.Each.{each, times}
+use Rattle.reading.specs.Reading.{Answer, accepted, refused, run, isAccepted, done, _>>=_}
+use Rattle.reading.proofs.Laws.{bind-inv}
 use Rattle.layout.specs.declared.Laid.{Laid}
 use Rattle.layout.specs.Layout.{nothingLaid, layoutOf}
-use Rattle.records.specs.declared.Dialect.{Dialect}
-use Rattle.records.specs.Format.{sizeWidth}
-use Rattle.records.specs.Contents.{Entered, entryBytes, tensorBytes}
-use Rattle.header.specs.Contents.{startBytes, startIn, headerBytes}
-use Rattle.header.specs.Format.{knownVersion}
+use Rattle.values.specs.declared.Dialect.{Dialect}
+use Rattle.values.specs.Format.{sizeWidth}
+use Rattle.values.specs.Contents.{entryBytes}
+use Rattle.tensors.specs.Contents.{tensorBytes}
+use Rattle.start.specs.Contents.{startBytes}
+use Rattle.header.specs.Contents.{startIn, headerBytes}
+use Rattle.start.specs.Format.{knownVersion}
 use Rattle.sheet.specs.Format.{Line, Drawn, metadata, tensor}
 use Rattle.sheet.specs.Sheet.{Records, sheetOf}
 use Rattle.sheet.proofs.Parts.{entry-ends}
 use Rattle.sheet.proofs.Whole.{sheet-entries, sheet-tensors}
-use Rattle.plan.specs.declared.Draft.{Draft}
 use Rattle.plan.specs.declared.Plan.{Plan}
 use Rattle.plan.specs.declared.Planned.{Planned}
-use Rattle.plan.specs.declared.Planned.the-variants.{Fine, Refused}
+use Rattle.plan.specs.declared.Planned.the-variants.{Fine}
 use Rattle.plan.specs.declared.LaidOut.{LaidOut}
 use Rattle.plan.specs.declared.LaidOut.the-variants.{Fits, Refused as NotLaid}
-use Rattle.plan.specs.Header.{saidIn, inserted, enteredIn, entriesWith, entriesOf, pieceOf, weightsFrom, laidWith, sheetFor, recordsIn, endOf, startOf}
-use Rattle.plan.specs.Plan.{require, requireLaid, isAlignment, canAdd, agrees, laidOf, countsFit, draftOf, planOf, roomed, laid, aligned, formed, planFor}
+use Rattle.plan.specs.Header.{saidIn, entriesWith, entriesOf, pieceOf, weightsFrom, laidWith, sheetFor, recordsIn, endOf, startOf}
+use Rattle.plan.specs.Plan.{require, requireLaid, isAlignment, canAdd, agrees, laidOf, countsFit, planOf, laid, aligned, formed, planFor}
 use Rattle.plan.proofs.Sizes.{start-length}
 use Rattle.plan.proofs.Drafts.{entries-count, padded-not-below}
 use Rattle.writer.specs.Output.{headerFor, leftBy, entryCount}

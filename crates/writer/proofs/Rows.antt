@@ -7,12 +7,12 @@ use native.Mathlib.Nat.{sub-zero}
 use native.Mathlib.Omega.{arith}
 use lib.ListN.{length, length-append, take, drop}
 use borrow.Rule.Slice.PartMut.{midOf, putMid}
-use Rattle.fields.specs.Back.{got}
-use Rattle.fields.specs.Bytes.{rows, Wrote}
-use Rattle.fields.specs.Each.{each, times}
-use Rattle.fields.specs.Reading.{Reading, done, Answer, accepted, refused, run, isAccepted}
-use Rattle.fields.proofs.Laws.{goes-on, bind-inv}
-use Rattle.fields.proofs.Turns.{times-accepted, times-got, times-ends, times-never}
+use Rattle.reading.specs.Back.{got, rows}
+use Rattle.fields.specs.Bytes.{Wrote}
+use Rattle.reading.specs.Each.{each, times}
+use Rattle.reading.specs.Reading.{Reading, done, Answer, accepted, refused, run, isAccepted}
+use Rattle.reading.proofs.Laws.{goes-on, bind-inv}
+use Rattle.reading.proofs.Turns.{times-accepted, times-got, times-ends, times-never}
 use Rattle.sheet.specs.Sheet.{stepOf}
 use Rattle.sheet.specs.declared.Stepped.the-variants.{To}
 use Rattle.sheet.proofs.Steps.{steps-on}

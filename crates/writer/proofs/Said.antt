@@ -7,18 +7,19 @@ use native.Mathlib.Omega.{arith}
 use lib.Dec.{eqb}
 use lib.ListN.{length, take, drop, length-append}
 use borrow.Author.Tests.{le-leb, eqb-true, eqb-false}
-use Rattle.fields.specs.Back.{got}
-use Rattle.fields.specs.Bytes.{bytesOf, rows}
-use Rattle.fields.specs.Each.{times}
-use Rattle.fields.specs.Reading.{Reading, done, Answer, accepted, refused, run, _>>=_, _>>_, check, andThen, isAccepted}
+use Rattle.reading.specs.Back.{got, rows}
+use Rattle.fields.specs.Bytes.{bytesOf}
+use Rattle.reading.specs.Each.{times}
+use Rattle.reading.specs.Reading.{Reading, done, Answer, accepted, refused, run, _>>=_, _>>_, check, andThen, isAccepted}
 use Rattle.fields.specs.Value.{number}
 use Rattle.fields.proofs.Bytes.{length-bytesOf}
-use Rattle.fields.proofs.Laws.{run-bind, goes-on, stops}
-use Rattle.fields.proofs.Sure.{sure-each, whatever}
-use Rattle.records.specs.Contents.{Content, one, word, list, typeBytes, sizeBytes, textBytes, saidBytes, insideOf}
-use Rattle.records.specs.Format.{sizeWidth, scalarWidth, depth}
-use Rattle.records.specs.declared.Dialect.{Dialect}
-use Rattle.records.specs.declared.Span.{Span}
+use Rattle.reading.proofs.Laws.{run-bind, goes-on, stops}
+use Rattle.reading.proofs.Sure.{sure-each, whatever}
+use Rattle.values.specs.Contents.{Content, one, word, list, typeBytes, sizeBytes, textBytes, saidBytes, insideOf}
+use Rattle.values.specs.Format.{sizeWidth, depth}
+use Rattle.scalars.specs.Scalars.{scalarWidth}
+use Rattle.values.specs.declared.Dialect.{Dialect}
+use Rattle.values.specs.declared.Span.{Span}
 use Rattle.plan.specs.Header.{heard}
 use Rattle.plan.proofs.Sizes.{type-length, size-length, text-length}
 use Rattle.sheet.specs.Format.{Text, textOf, text, scalar, itemType, array, item, value}

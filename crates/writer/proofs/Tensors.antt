@@ -8,18 +8,20 @@ use native.Mathlib.Numerals.{add-one}
 use borrow.Author.Tests.{le-leb}
 use lib.ListN.{length, length-append}
 use borrow.Rule.Slice.PartMut.{midOf, putMid}
-use Rattle.fields.specs.Back.{got}
-use Rattle.fields.specs.Bytes.{rows, Wrote}
-use Rattle.fields.specs.Each.{times}
-use Rattle.fields.specs.Reading.{accepted, refused, run, isAccepted}
-use Rattle.fields.proofs.Turns.{times-accepted, times-got, times-never, times-ends}
+use Rattle.reading.specs.Back.{got, rows}
+use Rattle.fields.specs.Bytes.{Wrote}
+use Rattle.reading.specs.Each.{times}
+use Rattle.reading.specs.Reading.{accepted, refused, run, isAccepted}
+use Rattle.reading.proofs.Turns.{times-accepted, times-got, times-never, times-ends}
 use Rattle.layout.specs.declared.Laid.{Laid}
 use Rattle.layout.specs.declared.Placed.the-variants.{At, Refused}
 use Rattle.layout.specs.Layout.{nothingLaid, placeOf, layoutFrom, layoutOf}
 use Rattle.layout.proofs.Places.{layout-stops, layout-goes-on, placed-by}
-use Rattle.records.specs.declared.Dialect.{Dialect}
-use Rattle.records.specs.Format.{sizeWidth, lengths}
-use Rattle.records.specs.Contents.{Weight, insideOf, tensorBytes}
+use Rattle.values.specs.declared.Dialect.{Dialect}
+use Rattle.values.specs.Format.{sizeWidth}
+use Rattle.tensors.specs.Format.{lengths}
+use Rattle.tensors.specs.Contents.{Weight, tensorBytes}
+use Rattle.values.specs.Contents.{insideOf}
 use Rattle.sheet.specs.declared.TensorParts.{TensorParts}
 use Rattle.sheet.specs.Format.{Drawn, tensor}
 use Rattle.sheet.proofs.Parts.{tensor-told}

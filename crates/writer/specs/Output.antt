@@ -3,11 +3,11 @@ use Prim.Native.Nat.{ℕ, suc, _+_, _-_}
 use mathlib.Core.List.{List, [], _∷_, _++_}
 use lib.Dec.{ltb}
 use lib.ListN.{drop, replicate}
-use Rattle.fields.specs.Choice.{if_then_else_}
+use Rattle.reading.specs.Choice.{if_then_else_}
 use Rattle.fields.specs.Order.{before}
-use Rattle.fields.specs.Reading.{Answer, accepted, refused}
-use Rattle.records.specs.declared.Dialect.{Dialect}
-use Rattle.records.specs.Format.{alignmentKey}
+use Rattle.reading.specs.Reading.{Answer, accepted, refused}
+use Rattle.values.specs.declared.Dialect.{Dialect}
+use Rattle.values.specs.Format.{alignmentKey}
 use Rattle.header.specs.Contents.{headerBytes}
 use Rattle.sheet.specs.Format.{Line}
 use Rattle.sheet.specs.Sheet.{sheetOf}

@@ -8,9 +8,9 @@ use layout::Placed;
 use plan::Draft;
 use plan::Plan;
 use plan::Planned;
-use records::Dialect;
-use records::ScalarWidth;
-use records::Shape;
+use values::Dialect;
+use scalars::ScalarWidth;
+use tensors::Shape;
 use sheet::EntryFound;
 use sheet::EntryParts;
 use sheet::TensorFound;
@@ -21,15 +21,18 @@ ghost use mathlib.Core.Bool.{true};
 ghost use mathlib.Core.List.{map, _++_};
 ghost use Prim.Native.Nat.{ℕ, suc, _+_, _≤_, _<_};
 ghost use lib.ListN.{length};
-ghost use Rattle.fields.specs.Reading.{run, isAccepted};
-ghost use Rattle.fields.specs.Each.{times};
-ghost use Rattle.fields.specs.Back.{got};
-ghost use Rattle.fields.specs.Bytes.{bytesOf, rows, Wrote};
+ghost use Rattle.reading.specs.Reading.{run, isAccepted};
+ghost use Rattle.reading.specs.Each.{times};
+ghost use Rattle.reading.specs.Back.{got, rows};
+ghost use Rattle.fields.specs.Bytes.{bytesOf, Wrote};
 ghost use Rattle.fields.specs.Value.{widthOf};
 ghost use Rattle.layout.specs.Layout.{nothingLaid, layoutOf};
-ghost use Rattle.records.specs.Format.{sizeWidth, scalarWidth, depth};
-ghost use Rattle.records.specs.Contents as contents;
-ghost use Rattle.header.specs.Contents.{startBytes, headerBytes};
+ghost use Rattle.values.specs.Format.{sizeWidth, depth};
+ghost use Rattle.scalars.specs.Scalars.{scalarWidth};
+ghost use Rattle.values.specs.Contents as contents;
+ghost use Rattle.tensors.specs.Contents.{lengthBytes, shapeBytes, storedBytes, tensorBytes};
+ghost use Rattle.start.specs.Contents.{startBytes};
+ghost use Rattle.header.specs.Contents.{headerBytes};
 ghost use Rattle.sheet.specs.Format as format;
 ghost use Rattle.sheet.specs.declared.Stepped.the-variants.{To};
 ghost use Rattle.sheet.specs.Sheet.{sheetOf, stepOf};
@@ -111,7 +114,7 @@ fn write_item(out: &mut [u8], s: &[u8], at: usize, t: u64, dialect: Dialect) -> 
     ensures { λ r. ⌜ Wrote (contents.saidBytes depth dialect (header_of.heard (run (format.item depth t) (now (s .entry)) at))) (now (out .entry)) (now (out .exit)) (r .written) ⌝ }
     ensures { λ r. ⌜ To (r .next) ≡ stepOf (run (format.item depth t) (now (s .entry)) at) ⌝ }
 {
-    match records::scalar_width(t) {
+    match scalars::scalar_width(t) {
         ScalarWidth::Of { width } => {
             let written = write_scalar(out, s, at, t, width, dialect);
             Copied {
@@ -125,7 +128,7 @@ fn write_item(out: &mut [u8], s: &[u8], at: usize, t: u64, dialect: Dialect) -> 
                 next: at,
             },
             TextFound::Found { span, next } => Copied {
-                written: write_string(out, records::inside(s, span), dialect),
+                written: write_string(out, values::inside(s, span), dialect),
                 next,
             },
         },
@@ -180,7 +183,7 @@ fn write_metadata_value(
     requires { ⌜ length (contents.saidBytes (suc depth) dialect (header_of.heard (run (format.value end form) (now s) at))) ≤ length (now out) ⌝ }
     ensures { λ r. ⌜ Wrote (contents.saidBytes (suc depth) dialect (header_of.heard (run (format.value end form) (now (s .entry)) at))) (now (out .entry)) (now (out .exit)) r ⌝ }
 {
-    match records::scalar_width(form) {
+    match scalars::scalar_width(form) {
         ScalarWidth::Of { width } => write_scalar(out, s, at, form, width, dialect),
         ScalarWidth::None => {
             if form == 9 {
@@ -232,7 +235,7 @@ fn write_entries(out: &mut [u8], s: &[u8], at: usize, n: usize, dialect: Dialect
                 let key = parts.key;
                 done += write_entry(
                     &mut out[done..],
-                    records::inside(s, key),
+                    values::inside(s, key),
                     s,
                     parts.value,
                     next,
@@ -275,7 +278,7 @@ fn entries_before(s: &[u8], n: usize) -> usize
             }
             EntryFound::Found { parts, next } => {
                 let key = parts.key;
-                if fields::comes_before(b"general.alignment", records::inside(s, key)) {
+                if fields::comes_before(b"general.alignment", values::inside(s, key)) {
                     return i;
                 }
                 from = next;
@@ -314,7 +317,7 @@ fn write_metadata_section(
 fn write_length(out: &mut [u8], n: u64, i: u64, v: u64, dialect: Dialect) -> usize
     requires { ⌜ output.lengthSize n i ≤ length (now out) ⌝ }
     ensures { λ r. ⌜ r ≡ output.lengthSize n i ⌝ }
-    ensures { λ r. ⌜ Wrote (contents.lengthBytes dialect n i v) (now (out .entry)) (now (out .exit)) r ⌝ }
+    ensures { λ r. ⌜ Wrote (lengthBytes dialect n i v) (now (out .entry)) (now (out .exit)) r ⌝ }
 {
     if i < n {
         fields::put_number(out, v, Width::Eight, dialect.big)
@@ -327,7 +330,7 @@ fn write_length(out: &mut [u8], n: u64, i: u64, v: u64, dialect: Dialect) -> usi
 fn write_shape(out: &mut [u8], x: Shape, dialect: Dialect) -> usize
     requires { ⌜ output.shapeSize (x .dimensions) ≤ length (now out) ⌝ }
     ensures { λ r. ⌜ r ≡ output.shapeSize (x .dimensions) ⌝ }
-    ensures { λ r. ⌜ Wrote (contents.shapeBytes dialect x) (now (out .entry)) (now (out .exit)) r ⌝ }
+    ensures { λ r. ⌜ Wrote (shapeBytes dialect x) (now (out .entry)) (now (out .exit)) r ⌝ }
 {
     let n = x.dimensions;
     let a = write_type(out, n, dialect);
@@ -341,7 +344,7 @@ fn write_shape(out: &mut [u8], x: Shape, dialect: Dialect) -> usize
 fn write_stored(out: &mut [u8], kind: u64, offset: u64, dialect: Dialect) -> usize
     requires { ⌜ 12 ≤ length (now out) ⌝ }
     ensures { λ r. ⌜ r ≡ 12 ⌝ }
-    ensures { λ r. ⌜ Wrote (contents.storedBytes dialect kind offset) (now (out .entry)) (now (out .exit)) r ⌝ }
+    ensures { λ r. ⌜ Wrote (storedBytes dialect kind offset) (now (out .entry)) (now (out .exit)) r ⌝ }
 {
     let a = write_type(out, kind, dialect);
     a + fields::put_number(&mut out[a..], offset, Width::Eight, dialect.big)
@@ -358,7 +361,7 @@ fn write_tensor_info(
 ) -> usize
     requires { ⌜ sizeWidth dialect + length (now name) + output.shapeSize (shape .dimensions) + 12 ≤ length (now out) ⌝ }
     ensures { λ r. ⌜ r ≡ sizeWidth dialect + length (now (name .entry)) + output.shapeSize (shape .dimensions) + 12 ⌝ }
-    ensures { λ r. ⌜ Wrote (contents.tensorBytes dialect (record { name = now (name .entry); shape = shape; kind = kind; offset = offset })) (now (out .entry)) (now (out .exit)) r ⌝ }
+    ensures { λ r. ⌜ Wrote (tensorBytes dialect (record { name = now (name .entry); shape = shape; kind = kind; offset = offset })) (now (out .entry)) (now (out .exit)) r ⌝ }
 {
     let a = write_string(out, name, dialect);
     let b = a + write_shape(&mut out[a..], shape, dialect);
@@ -375,13 +378,13 @@ fn write_laid_tensor(
 ) -> usize
     requires { ⌜ sizeWidth dialect + length (contents.insideOf (now s) (parts .name)) + output.shapeSize (parts .shape .dimensions) + 12 ≤ length (now out) ⌝ }
     ensures { λ r. ⌜ r ≡ sizeWidth dialect + length (contents.insideOf (now (s .entry)) (parts .name)) + output.shapeSize (parts .shape .dimensions) + 12 ⌝ }
-    ensures { λ r. ⌜ Wrote (contents.tensorBytes dialect (record { name = contents.insideOf (now (s .entry)) (parts .name); shape = parts .shape; kind = parts .kind; offset = offset })) (now (out .entry)) (now (out .exit)) r ⌝ }
+    ensures { λ r. ⌜ Wrote (tensorBytes dialect (record { name = contents.insideOf (now (s .entry)) (parts .name); shape = parts .shape; kind = parts .kind; offset = offset })) (now (out .entry)) (now (out .exit)) r ⌝ }
 {
     let name = parts.name;
     let shape = parts.shape;
     write_tensor_info(
         out,
-        records::inside(s, name),
+        values::inside(s, name),
         shape,
         parts.kind,
         offset,
@@ -400,8 +403,8 @@ fn write_tensor_info_section(
 ) -> usize
     requires { ⌜ isAccepted (run (times m format.tensor) (now s) first) ≡ true ⌝ }
     requires { ⌜ Fits ≡ plan_of.laidOf (layoutOf alignment (map header_of.pieceOf (got (run (times m format.tensor) (now s) first)))) ⌝ }
-    requires { ⌜ length (rows (contents.tensorBytes dialect) (header_of.weightsFrom alignment nothingLaid (got (run (times m format.tensor) (now s) first)))) ≤ length (now out) ⌝ }
-    ensures { λ r. ⌜ Wrote (rows (contents.tensorBytes dialect) (header_of.weightsFrom alignment nothingLaid (got (run (times m format.tensor) (now (s .entry)) first)))) (now (out .entry)) (now (out .exit)) r ⌝ }
+    requires { ⌜ length (rows (tensorBytes dialect) (header_of.weightsFrom alignment nothingLaid (got (run (times m format.tensor) (now s) first)))) ≤ length (now out) ⌝ }
+    ensures { λ r. ⌜ Wrote (rows (tensorBytes dialect) (header_of.weightsFrom alignment nothingLaid (got (run (times m format.tensor) (now (s .entry)) first)))) (now (out .entry)) (now (out .exit)) r ⌝ }
 {
     let mut from = first;
     let mut laid = Laid { total: 0, next: 0 };

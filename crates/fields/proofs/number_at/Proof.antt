@@ -2,12 +2,11 @@
 -- Assumes nothing.
 use borrow.Author.Needs.{needs}
 use Prim.Native.Nat.{_+_}
-use mathlib.Core.Path.{_≡_, ap, _∙_}
+use mathlib.Core.Path.{ap}
 use native.Mathlib.Omega.{arith}
 use denote.Ref.{now}
-use lib.ListN.{take, drop}
-use Rattle.fields.specs.Reading.{accepted}
-use Rattle.fields.specs.Value.{widthOf, value}
+use Rattle.reading.specs.Reading.{accepted}
+use Rattle.fields.specs.Value.{widthOf}
 use Rattle.fields.proofs.Numbers.{number-there, number-missing}
 use Rattle.fields.proofs.number_at.Statement.{statement}
 use Rattle.fields.proofs.number_at.Tie as tie

@@ -1,11 +1,11 @@
 -- `fields::value_in` meets its contract: one byte, two halves of one, four bytes or eight. Assumes nothing.
 use borrow.Author.Needs.{needs}
 use Prim.Native.Nat.{_+_, _≤_}
-use mathlib.Core.Path.{_≡_, sym, ap, _∙_}
+use mathlib.Core.Path.{sym, ap}
 use native.Mathlib.Omega.{arith}
 use denote.Ref.{now}
 use lib.ListN.{length}
-use Rattle.fields.specs.Value.{widthOf, halves}
+use Rattle.fields.specs.Value.{widthOf}
 use Rattle.fields.proofs.Numbers.{one-byte, value-halves}
 use Rattle.fields.proofs.value_in.Statement.{statement}
 use Rattle.fields.proofs.value_in.Tie as tie

@@ -4,7 +4,7 @@ use Rattle.header.proofs.alignment_of.Statement.{statement}
 use Rattle.header.proofs.alignment_of.Tie as tie
 
 returns : tie.Need-returns
-returns c = rw (c .before .before .before .value .given .1, c .usable .ensures, c .before .integer-of .ensures)
+returns c = rw (c .before .before .before .value .given .1, c .usable .ensures, c .before .natural-of .ensures)
 
 pub alignment-of-spec : {M : Type 1} → statement M
 alignment-of-spec =

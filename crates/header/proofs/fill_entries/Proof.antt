@@ -3,8 +3,8 @@ use borrow.Author.Needs.{needs}
 use mathlib.Core.Path.{_∙_}
 use native.Mathlib.Omega.{arith}
 use denote.Ref.{now}
-use Rattle.records.specs.Format.{entry}
-use Rattle.records.specs.Rows.{entryRow}
+use Rattle.values.specs.Format.{entry}
+use Rattle.values.specs.Rows.{entryRow}
 use Rattle.header.proofs.Kept.{copied}
 use Rattle.header.proofs.fill_entries.Statement.{statement}
 use Rattle.header.proofs.fill_entries.Tie as tie

@@ -9,14 +9,14 @@ use native.Mathlib.Omega.{arith}
 use native.Mathlib.Nat.{sub-zero}
 use lib.ListN.{length, length-set, take, drop}
 use denote.Ref.{now}
-use Rattle.fields.specs.Reading.{run, isAccepted}
-use Rattle.fields.specs.Each.{each, filled}
-use Rattle.fields.proofs.Turns.{each-accepted, each-filled, each-last}
-use Rattle.records.specs.Format.{tensor, totalOf}
-use Rattle.records.specs.Rows.{tensorRow}
-use Rattle.records.specs.declared.Dialect.{Dialect}
-use Rattle.header.specs.Steps.{rest}
-use Rattle.header.proofs.Parts.{Found, name-ends, next-name, next-rest, found-again}
+use Rattle.reading.specs.Reading.{run, isAccepted}
+use Rattle.reading.specs.Each.{each, filled}
+use Rattle.reading.proofs.Turns.{each-accepted, each-filled, each-last}
+use Rattle.tensors.specs.Format.{tensor, totalOf}
+use Rattle.tensors.specs.Rows.{tensorRow}
+use Rattle.values.specs.declared.Dialect.{Dialect}
+use Rattle.tensors.specs.Steps.{rest}
+use Rattle.tensors.proofs.ReadAgain.{Found, name-ends, next-name, next-rest, found-again}
 use Rattle.header.proofs.fill_tensors.Statement.{statement}
 use Rattle.header.proofs.fill_tensors.Tie as tie
 

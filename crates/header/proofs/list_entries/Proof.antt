@@ -8,13 +8,13 @@ use mathlib.Core.Bool.{true}
 use native.Mathlib.Omega.{arith}
 use native.Mathlib.Nat.{sub-zero}
 use lib.ListN.{length, length-set, take, drop}
-use Rattle.fields.specs.Reading.{run, seen, isAccepted}
-use Rattle.fields.specs.Each.{times, fold, filled}
-use Rattle.fields.proofs.Turns.{times-ends, times-stops, times-seen, times-never, times-accepted, times-filled, times-last}
-use Rattle.records.specs.Format.{entry}
-use Rattle.records.specs.Answers.{asEntry}
-use Rattle.records.specs.Rows.{entryRow}
-use Rattle.records.specs.declared.Dialect.{Dialect}
+use Rattle.reading.specs.Reading.{run, seen, isAccepted}
+use Rattle.reading.specs.Each.{times, fold, filled}
+use Rattle.reading.proofs.Turns.{times-ends, times-stops, times-seen, times-never, times-accepted, times-filled, times-last}
+use Rattle.values.specs.Format.{entry}
+use Rattle.values.specs.Answers.{asEntry}
+use Rattle.values.specs.Rows.{entryRow}
+use Rattle.values.specs.declared.Dialect.{Dialect}
 use Rattle.header.specs.Format.{latest}
 use Rattle.header.proofs.list_entries.Statement.{statement}
 use Rattle.header.proofs.list_entries.Tie as tie

@@ -3,10 +3,10 @@
 use borrow.Author.Needs.{needs}
 use mathlib.Core.Path.{refl, sym, ap, _∙_}
 use denote.Ref.{now}
-use Rattle.fields.specs.Reading.{seen}
+use Rattle.reading.specs.Reading.{seen}
 use Rattle.fields.specs.Value.{asNumber}
-use Rattle.records.specs.Answers.{asPassed}
-use Rattle.header.specs.Answers.{asStart}
+use Rattle.values.specs.Answers.{asPassed}
+use Rattle.start.specs.Answers.{asStart}
 use Rattle.header.proofs.Whole.{Started, Aligned, Ended, no-start, no-entries, no-tensors, all-told}
 use Rattle.header.proofs.measure.Statement.{statement}
 use Rattle.header.proofs.measure.Tie as tie

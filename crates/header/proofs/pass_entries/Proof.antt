@@ -5,11 +5,11 @@ use Prim.Native.Nat.{_-_, _≤_}
 use mathlib.Core.Path.{_≡_, sym, ap, _∙_}
 use native.Mathlib.Omega.{arith}
 use native.Mathlib.Nat.{sub-zero}
-use Rattle.fields.specs.Reading.{run, seen}
-use Rattle.fields.specs.Each.{times, fold}
-use Rattle.fields.proofs.Turns.{times-ends, times-stops, times-seen}
-use Rattle.records.specs.Format.{entry}
-use Rattle.records.specs.Answers.{asEntry}
+use Rattle.reading.specs.Reading.{run, seen}
+use Rattle.reading.specs.Each.{times, fold}
+use Rattle.reading.proofs.Turns.{times-ends, times-stops, times-seen}
+use Rattle.values.specs.Format.{entry}
+use Rattle.values.specs.Answers.{asEntry}
 use Rattle.header.specs.Format.{latest}
 use Rattle.header.proofs.pass_entries.Statement.{statement}
 use Rattle.header.proofs.pass_entries.Tie as tie

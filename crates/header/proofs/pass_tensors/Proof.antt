@@ -6,13 +6,13 @@ use mathlib.Core.Path.{_≡_, sym, ap, _∙_}
 use native.Mathlib.Omega.{arith}
 use native.Mathlib.Nat.{sub-zero}
 use denote.Ref.{now}
-use Rattle.fields.specs.Reading.{accepted, run, passed, seen}
-use Rattle.fields.specs.Each.{each}
-use Rattle.fields.specs.Ceilings.{under}
-use Rattle.fields.proofs.Turns.{each-ends, each-stops, each-passed}
-use Rattle.records.specs.Format.{tensor, totalOf}
-use Rattle.records.specs.Answers.{asTensor}
-use Rattle.header.proofs.Totals.{total-fits}
+use Rattle.reading.specs.Reading.{accepted, run, passed, seen}
+use Rattle.reading.specs.Each.{each}
+use Rattle.reading.specs.Ceilings.{under}
+use Rattle.reading.proofs.Turns.{each-ends, each-stops, each-passed}
+use Rattle.tensors.specs.Format.{tensor, totalOf}
+use Rattle.tensors.specs.Answers.{asTensor}
+use Rattle.tensors.proofs.Totals.{total-fits}
 use Rattle.header.proofs.pass_tensors.Statement.{statement}
 use Rattle.header.proofs.pass_tensors.Tie as tie
 

@@ -3,13 +3,14 @@ use mathlib.Core.Path.{refl, sym, ap, _∙_}
 use borrow.Author.Needs.{needs}
 use denote.Ref.{now}
 use lib.ListN.{length}
-use Rattle.fields.specs.Each.{filled}
-use Rattle.fields.specs.Reading.{isAccepted, seen}
+use Rattle.reading.specs.Each.{filled}
+use Rattle.reading.specs.Reading.{isAccepted, seen}
 use Rattle.fields.specs.Value.{asNumber}
-use Rattle.records.specs.Answers.{asPassed}
-use Rattle.records.specs.Rows.{entryRow, tensorRow}
-use Rattle.header.specs.declared.Rooms.{Rooms}
-use Rattle.header.specs.Answers.{asStart}
+use Rattle.values.specs.Answers.{asPassed}
+use Rattle.values.specs.Rows.{entryRow}
+use Rattle.tensors.specs.Rows.{tensorRow}
+use Rattle.start.specs.declared.Rooms.{Rooms}
+use Rattle.start.specs.Answers.{asStart}
 use Rattle.header.proofs.Whole.{Started, Aligned, Ended, Passed, no-start, no-entries, no-tensors, no-data, reached}
 use Rattle.header.proofs.read.Statement.{statement}
 use Rattle.header.proofs.read.Tie as tie

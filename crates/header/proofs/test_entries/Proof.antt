@@ -2,10 +2,10 @@
 use borrow.Author.Needs.{needs}
 use native.Mathlib.Omega.{arith}
 use denote.Ref.{now}
-use Rattle.fields.specs.Each.{times}
-use Rattle.fields.specs.Reading.{run}
-use Rattle.records.specs.Format.{entry}
-use Rattle.records.specs.Rows.{entryRow}
+use Rattle.reading.specs.Each.{times}
+use Rattle.reading.specs.Reading.{run}
+use Rattle.values.specs.Format.{entry}
+use Rattle.values.specs.Rows.{entryRow}
 use Rattle.header.proofs.Kept.{stands}
 use Rattle.header.proofs.test_entries.Statement.{statement}
 use Rattle.header.proofs.test_entries.Tie as tie

@@ -1,7 +1,7 @@
 -- `listing::key_at` meets its contract: a row past the end has no words, so its key is the empty text at 0. Assumes nothing.
+use mathlib.Core.List.{[]}
 use borrow.Author.Needs.{needs}
 use denote.Ref.{now}
-use mathlib.Core.List.{[]}
 use lib.ListN.{List·getD-eq-default}
 use Rattle.listing.proofs.key_at.Statement.{statement}
 use Rattle.listing.proofs.key_at.Tie as tie

@@ -5,7 +5,7 @@ use mathlib.Core.Path.{_≡_, sym, _∙_}
 use native.Mathlib.Omega.{arith}
 use denote.Ref.{now}
 use lib.ListN.{length}
-use Rattle.fields.specs.Bytes.{rows}
+use Rattle.reading.specs.Back.{rows}
 use Rattle.listing.specs.Order.{nextKey, orderedAfter, ordered}
 use Rattle.listing.specs.Text.{keyLine}
 use Rattle.listing.specs.declared.NextKey.the-variants.{At}

@@ -4,7 +4,7 @@ use Prim.Native.Nat.{_-_, _≤_}
 use native.Mathlib.Omega.{arith}
 use denote.Ref.{now}
 use lib.ListN.{length, drop}
-use Rattle.fields.specs.Bytes.{rows}
+use Rattle.reading.specs.Back.{rows}
 use Rattle.listing.specs.Text.{tensorLine}
 use Rattle.listing.proofs.Put.{put-long}
 use Rattle.listing.proofs.Writing.{Writing, writing-starts, writing-turns, writing-ends, rows-turn, rows-end}

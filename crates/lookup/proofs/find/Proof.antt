@@ -3,11 +3,12 @@
 use borrow.Author.Needs.{needs}
 use mathlib.Core.Path.{_≡_, refl, sym, ap, _∙_}
 use denote.Ref.{now}
-use Rattle.fields.specs.Each.{times, fold}
-use Rattle.fields.specs.Reading.{accepted, run, isAccepted, seen}
-use Rattle.fields.proofs.Turns.{seen-refused}
-use Rattle.records.specs.Format.{entry}
-use Rattle.header.specs.Answers.{asHeader, full}
+use Rattle.reading.specs.Each.{times, fold}
+use Rattle.reading.specs.Reading.{accepted, run, isAccepted, seen}
+use Rattle.reading.proofs.Turns.{seen-refused}
+use Rattle.values.specs.Format.{entry}
+use Rattle.header.specs.Answers.{asHeader}
+use Rattle.reading.specs.Ceilings.{full}
 use Rattle.header.specs.Contents.{dialectIn}
 use Rattle.header.proofs.Begins.{Again, again}
 use Rattle.lookup.specs.Questions.{enough, sought}

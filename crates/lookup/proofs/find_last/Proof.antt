@@ -7,11 +7,11 @@ use mathlib.Core.Logic.{⊎-elim}
 use native.Mathlib.Omega.{arith}
 use native.Mathlib.Nat.{sub-zero}
 use denote.Ref.{now}
-use Rattle.fields.specs.Reading.{accepted, run, seen}
-use Rattle.fields.specs.Each.{times, fold}
-use Rattle.fields.proofs.Turns.{times-ends, times-stops, times-seen}
-use Rattle.records.specs.Format.{entry}
-use Rattle.records.specs.Answers.{asEntry}
+use Rattle.reading.specs.Reading.{accepted, run, seen}
+use Rattle.reading.specs.Each.{times, fold}
+use Rattle.reading.proofs.Turns.{times-ends, times-stops, times-seen}
+use Rattle.values.specs.Format.{entry}
+use Rattle.values.specs.Answers.{asEntry}
 use Rattle.lookup.specs.Questions.{sought}
 use Rattle.lookup.specs.declared.Sought.the-variants.{Missing}
 use Rattle.lookup.proofs.Keys.{key-inside}

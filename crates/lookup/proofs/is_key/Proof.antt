@@ -6,8 +6,8 @@ use mathlib.Core.Path.{sym, _∙_}
 use native.Mathlib.Omega.{arith}
 use denote.Ref.{now}
 use lib.ListN.{length}
-use Rattle.records.specs.Contents.{bytesAt}
-use Rattle.records.proofs.Texts.{word-told, other-length, same-length}
+use Rattle.values.specs.Contents.{bytesAt}
+use Rattle.values.proofs.Texts.{word-told, other-length, same-length}
 use Rattle.lookup.proofs.is_key.Statement.{statement}
 use Rattle.lookup.proofs.is_key.Tie as tie
 

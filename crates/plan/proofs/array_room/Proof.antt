@@ -9,9 +9,9 @@ use native.Mathlib.Omega.{arith}
 use native.Mathlib.Nat.{mul-comm, mul-le-mul-right}
 use borrow.Author.Tests.{eq-eqb, ne-eqb}
 use denote.Ref.{now}
-use Rattle.fields.specs.Reading.{accepted, run}
+use Rattle.reading.specs.Reading.{accepted, run}
 use Rattle.fields.specs.Value.{number, asNumber}
-use Rattle.records.specs.Format.{depth}
+use Rattle.values.specs.Format.{depth}
 use Rattle.sheet.specs.Format.{array, item}
 use Rattle.sheet.proofs.Steps.{step-yes}
 use Rattle.plan.specs.Plan.{takenFrom}

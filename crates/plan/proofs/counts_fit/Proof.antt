@@ -3,7 +3,7 @@ use Prim.Native.Nat.{_+_}
 use mathlib.Core.Path.{_≡_}
 use mathlib.Core.Logic.{⊎-elim}
 use borrow.Author.Tests.{ne-eqb}
-use Rattle.fields.specs.Choice.{if_then_else_}
+use Rattle.reading.specs.Choice.{if_then_else_}
 use Rattle.plan.proofs.Counts.{counts-over, counts-rest}
 use Rattle.plan.proofs.counts_fit.Statement.{statement}
 use Rattle.plan.proofs.counts_fit.Tie as tie

@@ -4,9 +4,9 @@ use Prim.Native.Nat.{_+_, _≤_}
 use mathlib.Core.Path.{_≡_}
 use mathlib.Core.Logic.{⊎-elim}
 use native.Mathlib.Omega.{arith}
-use Rattle.fields.specs.Choice.{if_then_else_}
+use Rattle.reading.specs.Choice.{if_then_else_}
 use Rattle.layout.specs.Layout.{nothingLaid}
-use Rattle.records.specs.Format.{sizeWidth}
+use Rattle.values.specs.Format.{sizeWidth}
 use Rattle.plan.proofs.Sizes.{size-cases}
 use Rattle.plan.proofs.Drafts.{entries-there, tensors-there, header-taken}
 use Rattle.plan.proofs.header_room.Statement.{statement}

@@ -7,9 +7,9 @@ use mathlib.Core.List.{map}
 use native.Mathlib.Omega.{arith}
 use native.Mathlib.Nat.{sub-zero}
 use denote.Ref.{now}
-use Rattle.fields.specs.Back.{got}
-use Rattle.fields.specs.Reading.{run, isAccepted}
-use Rattle.fields.specs.Each.{times}
+use Rattle.reading.specs.Back.{got}
+use Rattle.reading.specs.Reading.{run, isAccepted}
+use Rattle.reading.specs.Each.{times}
 use Rattle.layout.specs.Layout.{layoutFrom, layoutOf}
 use Rattle.sheet.specs.Format.{tensor}
 use Rattle.sheet.specs.Sheet.{tensorOf}

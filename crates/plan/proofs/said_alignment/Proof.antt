@@ -7,9 +7,9 @@ use mathlib.Core.Logic.{⊎-elim}
 use native.Mathlib.Omega.{arith}
 use native.Mathlib.Nat.{sub-zero}
 use denote.Ref.{now}
-use Rattle.fields.specs.Back.{got}
-use Rattle.fields.specs.Reading.{run, isAccepted}
-use Rattle.fields.specs.Each.{times, fold}
+use Rattle.reading.specs.Back.{got}
+use Rattle.reading.specs.Reading.{run, isAccepted}
+use Rattle.reading.specs.Each.{times, fold}
 use Rattle.sheet.specs.Format.{metadata}
 use Rattle.sheet.specs.Sheet.{entryOf}
 use Rattle.sheet.specs.declared.EntryFound.the-variants.{Found}

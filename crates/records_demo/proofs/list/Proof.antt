@@ -37,8 +37,6 @@ use denote.Slice.{sliceVal, MutSlice, ShrSlice, Room, finally, slice-vals, mut-s
 use denote.Lend.{Held, lends-slice, slice-back, lends-shr-slice}
 use denote.Index.{row, whole-in, whole-out}
 use denote.Steps.{owned, peeks, heard, nothing}
-use denote.Struct.Laws as LL
-use denote.Enum.Laws as EL
 use denote.Triple.Entry.{onEntry}
 use denote.Triple.Spec.{Meets, tripleOf}
 use denote.Triple.Statement.{Contract, Triple}
@@ -48,38 +46,42 @@ use denote.Triple.Table.{entered as entered-at, cited}
 use denote.Triple.Walked.{onExit, Stays, stay-none, stay-none-slice, gave-slice, walkOf, goes-none, goes-none-slice, goes-gave-slice, Walks, ends-at, walked, walk-meets}
 use denote.Exit.{yes}
 use denote.Signature.{plain}
-use Rattle.fields.specs.Each.{filled}
-use Rattle.fields.specs.Reading.{seen}
-use Rattle.fields.specs.declared.Limits.{Limits}
-use Rattle.fields.proofs.Limits as Lim
-use Rattle.fields.proofs.Limits.Laws as Lim′
-use Rattle.records.specs.Rows.{entryRow, tensorRow}
-use Rattle.header.specs.Answers.{asHeader, full}
+use Rattle.reading.specs.Each.{filled}
+use Rattle.reading.specs.Reading.{seen}
+use Rattle.reading.specs.declared.Limits.{Limits}
+use Rattle.values.specs.Rows.{entryRow}
+use Rattle.tensors.specs.Rows.{tensorRow}
+use Rattle.header.specs.Answers.{asHeader}
+use Rattle.reading.specs.Ceilings.{full}
 use Rattle.header.specs.declared.HeaderRead.{HeaderRead}
-use Rattle.header.proofs.HeaderRead as R
-use Rattle.header.proofs.HeaderRead.Laws as R′
 use Rattle.tensor_records.specs.declared.TensorRecord.{TensorRecord}
 use Rattle.tensor_records.specs.Records.{tensorRecord, listingOf, gotAt}
 use Rattle.tensor_records.specs.declared.RecordGot.{RecordGot}
 use Rattle.tensor_records.proofs.Facts.{and, last, together, says-all}
+use Rattle.tensor_records.proofs.get.Symbol.{name as #tensor-records·get}
+use Rattle.tensor_records.proofs.read_records.Symbol.{name as #tensor-records·read-records}
+use Rattle.records_demo.specs.Listed.{recordsIn, listed}
+use Rattle.records_demo.specs.declared.Listing.{Listing}
+use Rattle.records_demo.proofs.Slot.{slot-in, slot-out}
+use Rattle.records_demo.proofs.list.Key.{name as #records-demo·list}
+use denote.Struct.Laws as LL
+use denote.Enum.Laws as EL
+use Rattle.reading.proofs.Limits as Lim
+use Rattle.reading.proofs.Limits.Laws as Lim′
+use Rattle.header.proofs.HeaderRead as R
+use Rattle.header.proofs.HeaderRead.Laws as R′
 use Rattle.tensor_records.proofs.TensorRecord as T
 use Rattle.tensor_records.proofs.TensorRecord.Laws as T′
 use Rattle.tensor_records.proofs.RecordGot as G
 use Rattle.tensor_records.proofs.RecordGot.Laws as G′
 use Rattle.tensor_records.proofs.get as get
 use Rattle.tensor_records.proofs.get.Symbol as get-def
-use Rattle.tensor_records.proofs.get.Symbol.{name as #tensor-records·get}
 use Rattle.tensor_records.proofs.get.Met as get-thm
 use Rattle.tensor_records.proofs.read_records as reading
 use Rattle.tensor_records.proofs.read_records.Symbol as reading-def
-use Rattle.tensor_records.proofs.read_records.Symbol.{name as #tensor-records·read-records}
 use Rattle.tensor_records.proofs.read_records.Met as reading-thm
-use Rattle.records_demo.specs.Listed.{recordsIn, listed}
-use Rattle.records_demo.specs.declared.Listing.{Listing}
 use Rattle.records_demo.proofs.Listing as L
 use Rattle.records_demo.proofs.Listing.Laws as L′
-use Rattle.records_demo.proofs.Slot.{slot-in, slot-out}
-use Rattle.records_demo.proofs.list.Key.{name as #records-demo·list}
 use Rattle.records_demo.proofs.list as list
 use Rattle.records_demo.proofs.list.Statement as stated
 use Rattle.records_demo.proofs.list.Code as code

@@ -7,10 +7,10 @@ use mathlib.Core.Bool.{true}
 use mathlib.Core.Path.{_≡_, refl, sym, ap, _∙_}
 use native.Mathlib.Omega.{arith}
 use denote.Ref.{now}
-use Rattle.fields.specs.Reading.{accepted, run, here, andThen}
+use Rattle.reading.specs.Reading.{accepted, run, here, andThen}
 use Rattle.fields.specs.Value.{asNumber, number}
-use Rattle.fields.proofs.Laws.{run-bind}
-use Rattle.fields.proofs.Sure.{number-within}
+use Rattle.reading.proofs.Laws.{run-bind}
+use Rattle.fields.proofs.NumberFields.{number-within}
 use Rattle.sheet.specs.Format.{opening}
 use Rattle.sheet.proofs.body_at.Statement.{statement}
 use Rattle.sheet.proofs.body_at.Tie as tie

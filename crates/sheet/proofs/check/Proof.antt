@@ -6,7 +6,7 @@ use mathlib.Core.Path.{refl, sym, ap, _∙_}
 use native.Mathlib.Omega.{arith}
 use lib.ListN.{List·getD-eq-default, length}
 use denote.Ref.{now}
-use Rattle.fields.specs.Reading.{andThen}
+use Rattle.reading.specs.Reading.{andThen}
 use Rattle.sheet.specs.Sheet.{entriesFrom, tensorsFrom, sheetOf}
 use Rattle.sheet.specs.declared.Checked.the-variants.{Whole}
 use Rattle.sheet.proofs.Steps.{Shows, count-no, count-yes}

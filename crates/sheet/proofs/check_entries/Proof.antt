@@ -7,8 +7,8 @@ use mathlib.Core.Path.{_≡_, sym, ap, _∙_}
 use native.Mathlib.Omega.{arith}
 use lib.ListN.{length}
 use denote.Ref.{now}
-use Rattle.fields.specs.Reading.{run}
-use Rattle.records.specs.Contents.{insideOf}
+use Rattle.reading.specs.Reading.{run}
+use Rattle.values.specs.Contents.{insideOf}
 use Rattle.sheet.specs.Format.{Line}
 use Rattle.sheet.specs.Sheet.{asMany, isMetadata, next, keyOf, lastKey, noKey, lastIn, entriesFrom, countOf}
 use Rattle.sheet.specs.declared.EntryParts.{EntryParts}

@@ -7,7 +7,7 @@ use mathlib.Core.Path.{_≡_, sym, _∙_}
 use native.Mathlib.Omega.{arith}
 use lib.ListN.{length}
 use denote.Ref.{now}
-use Rattle.fields.specs.Reading.{run}
+use Rattle.reading.specs.Reading.{run}
 use Rattle.sheet.specs.Format.{Drawn, tensor}
 use Rattle.sheet.specs.Sheet.{asMany, goesOn, tensorsFrom, countOf}
 use Rattle.sheet.proofs.Many.{added, many-starts, many-ends, many-stops, many-more}

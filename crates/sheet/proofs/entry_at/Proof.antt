@@ -4,7 +4,7 @@ use borrow.Author.Tests.{eq-eqb, ne-eqb}
 use lib.ListN.{length}
 use mathlib.Core.Path.{_≡_, refl, sym, ap, _∙_}
 use denote.Ref.{now}
-use Rattle.fields.specs.Reading.{accepted, run}
+use Rattle.reading.specs.Reading.{accepted, run}
 use Rattle.sheet.specs.Format.{opening, keyed, metadata}
 use Rattle.sheet.specs.declared.EntryFound.the-variants.{Found}
 use Rattle.sheet.proofs.Frames.{framed-run, unopened, opened}

@@ -2,9 +2,9 @@
 use borrow.Author.Needs.{needs}
 use mathlib.Core.Path.{_≡_, refl, sym, ap, _∙_}
 use denote.Ref.{now}
-use Rattle.fields.specs.Reading.{run, andThen}
-use Rattle.fields.proofs.Laws.{run-bind}
-use Rattle.records.specs.Contents.{insideOf}
+use Rattle.reading.specs.Reading.{run, andThen}
+use Rattle.reading.proofs.Laws.{run-bind}
+use Rattle.values.specs.Contents.{insideOf}
 use Rattle.sheet.specs.Format.{Line, metadata}
 use Rattle.sheet.specs.Sheet.{follows, lastIn, next}
 use Rattle.sheet.specs.declared.EntryParts.{EntryParts}

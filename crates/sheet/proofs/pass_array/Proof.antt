@@ -4,12 +4,12 @@ use borrow.Author.Tests.{le-leb, lt-leb, eq-eqb, ne-eqb}
 use mathlib.Core.Bool.{true}
 use mathlib.Core.Path.{_≡_, refl, sym, ap, _∙_}
 use denote.Ref.{now}
-use Rattle.fields.specs.Reading.{accepted, run, andThen}
-use Rattle.fields.specs.Each.{times}
+use Rattle.reading.specs.Reading.{accepted, run, andThen}
+use Rattle.reading.specs.Each.{times}
 use Rattle.fields.specs.Value.{asNumber, number}
-use Rattle.fields.proofs.Laws.{run-bind}
-use Rattle.records.specs.Contents.{list}
-use Rattle.records.specs.Format.{depth}
+use Rattle.reading.proofs.Laws.{run-bind}
+use Rattle.values.specs.Contents.{list}
+use Rattle.values.specs.Format.{depth}
 use Rattle.sheet.specs.Format.{array, item}
 use Rattle.sheet.proofs.Steps.{step-then}
 use Rattle.sheet.proofs.pass_array.Statement.{statement}

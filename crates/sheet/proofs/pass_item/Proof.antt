@@ -4,10 +4,9 @@ use lib.Dec.{ltb}
 use mathlib.Core.Bool.{true}
 use mathlib.Core.Path.{_≡_, refl, sym, ap, _∙_}
 use denote.Ref.{now}
-use Rattle.fields.specs.Reading.{run, andThen}
+use Rattle.reading.specs.Reading.{run, andThen}
 use Rattle.fields.specs.Value.{asNumber, widthOf}
-use Rattle.records.specs.Answers.{asWidth}
-use Rattle.records.specs.Format.{scalarWidth}
+use Rattle.scalars.specs.Scalars.{asWidth, scalarWidth}
 use Rattle.sheet.specs.Format.{text}
 use Rattle.sheet.proofs.Items.{has-width, has-none, item-scalar, item-text, item-none}
 use Rattle.sheet.proofs.Steps.{span-no, span-yes}

@@ -5,10 +5,10 @@ use mathlib.Core.Path.{_≡_, sym, ap, _∙_}
 use native.Mathlib.Omega.{arith}
 use native.Mathlib.Nat.{sub-zero}
 use denote.Ref.{now}
-use Rattle.fields.specs.Reading.{run}
-use Rattle.fields.specs.Each.{times}
-use Rattle.fields.proofs.Turns.{times-ends}
-use Rattle.records.specs.Format.{depth}
+use Rattle.reading.specs.Reading.{run}
+use Rattle.reading.specs.Each.{times}
+use Rattle.reading.proofs.Turns.{times-ends}
+use Rattle.values.specs.Format.{depth}
 use Rattle.sheet.specs.Format.{item}
 use Rattle.sheet.specs.Sheet.{stepOf}
 use Rattle.sheet.proofs.Steps.{steps-on, steps-not}

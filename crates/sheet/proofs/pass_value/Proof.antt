@@ -7,10 +7,9 @@ use mathlib.Core.Bool.{true}
 use mathlib.Core.Path.{_≡_, refl, sym, ap, _∙_}
 use native.Mathlib.Omega.{arith}
 use denote.Ref.{now}
-use Rattle.fields.specs.Reading.{run, andThen}
+use Rattle.reading.specs.Reading.{run, andThen}
 use Rattle.fields.specs.Value.{asNumber, widthOf}
-use Rattle.records.specs.Answers.{asWidth}
-use Rattle.records.specs.Format.{scalarWidth}
+use Rattle.scalars.specs.Scalars.{asWidth, scalarWidth}
 use Rattle.sheet.specs.Format.{textOf}
 use Rattle.sheet.proofs.Items.{has-width, has-none, value-scalar, value-text, value-array, value-none}
 use Rattle.sheet.proofs.Steps.{span-no, span-yes}

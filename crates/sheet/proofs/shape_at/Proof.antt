@@ -4,10 +4,10 @@ use borrow.Author.Tests.{le-leb, lt-leb}
 use mathlib.Core.Bool.{true}
 use mathlib.Core.Path.{_≡_, refl, sym, ap, _∙_}
 use denote.Ref.{now}
-use Rattle.fields.specs.Reading.{accepted, run, andThen}
+use Rattle.reading.specs.Reading.{accepted, run, andThen}
 use Rattle.fields.specs.Value.{asNumber, number}
-use Rattle.fields.proofs.Laws.{run-bind}
-use Rattle.records.specs.Answers.{asShape}
+use Rattle.reading.proofs.Laws.{run-bind}
+use Rattle.tensors.specs.Answers.{asShape}
 use Rattle.sheet.specs.Format.{shape}
 use Rattle.sheet.proofs.shape_at.Statement.{statement}
 use Rattle.sheet.proofs.shape_at.Tie as tie

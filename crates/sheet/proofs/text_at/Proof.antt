@@ -1,9 +1,9 @@
 -- `sheet::text_at` meets its contract: a length, and a text of it. Assumes nothing.
 use borrow.Author.Needs.{needs}
 use mathlib.Core.Path.{refl, sym, ap, _∙_}
-use Rattle.fields.specs.Reading.{andThen}
+use Rattle.reading.specs.Reading.{andThen}
 use Rattle.fields.specs.Value.{asNumber}
-use Rattle.fields.proofs.Laws.{run-bind}
+use Rattle.reading.proofs.Laws.{run-bind}
 use Rattle.sheet.specs.Format.{text}
 use Rattle.sheet.proofs.text_at.Statement.{statement}
 use Rattle.sheet.proofs.text_at.Tie as tie

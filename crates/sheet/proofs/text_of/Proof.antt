@@ -6,8 +6,8 @@ use lib.ListN.{length}
 use mathlib.Core.Path.{refl}
 use native.Mathlib.Omega.{arith}
 use denote.Ref.{now}
-use Rattle.fields.specs.Reading.{run, here, andThen}
-use Rattle.fields.proofs.Laws.{run-bind}
+use Rattle.reading.specs.Reading.{run, here, andThen}
+use Rattle.reading.proofs.Laws.{run-bind}
 use Rattle.sheet.specs.Format.{bytes, textOf}
 use Rattle.sheet.proofs.text_of.Statement.{statement}
 use Rattle.sheet.proofs.text_of.Tie as tie

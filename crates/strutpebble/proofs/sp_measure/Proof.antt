@@ -1,7 +1,7 @@
 -- `strutpebble::sp_measure` meets its contract: the answer of `header::measure`, told as numbers. Assumes nothing.
 use borrow.Author.Needs.{needs}
 use mathlib.Core.Path.{ap, _∙_}
-use Rattle.strutpebble.specs.Numbers.{numberOf, wordsOf}
+use Rattle.words.specs.Words.{numberOf, wordsOf}
 use Rattle.strutpebble.proofs.sp_measure.Statement.{statement}
 use Rattle.strutpebble.proofs.sp_measure.Tie as tie
 

@@ -1,7 +1,7 @@
 -- `strutpebble::sp_read` meets its contract: `header::read`'s answer, told as numbers. Assumes nothing.
 use borrow.Author.Needs.{needs}
 use mathlib.Core.Path.{ap, _∙_}
-use Rattle.strutpebble.specs.Numbers.{numberOf, wordsOf}
+use Rattle.words.specs.Words.{numberOf, wordsOf}
 use Rattle.strutpebble.proofs.sp_read.Statement.{statement}
 use Rattle.strutpebble.proofs.sp_read.Tie as tie
 

@@ -1,7 +1,7 @@
 -- `strutpebble::sp_write` meets its contract: `writer::write_header`'s answer, told as numbers. Assumes nothing.
 use borrow.Author.Needs.{needs}
 use mathlib.Core.Path.{ap, _∙_}
-use Rattle.strutpebble.specs.Numbers.{writtenNumber, writtenWords}
+use Rattle.words.specs.Words.{writtenNumber, writtenWords}
 use Rattle.strutpebble.proofs.sp_write.Statement.{statement}
 use Rattle.strutpebble.proofs.sp_write.Tie as tie
 

@@ -39,7 +39,6 @@ use denote.Slice.{sliceTy, sliceVal, MutSlice, ShrSlice, Room, heres, codedHoley
 use denote.Lend.{Held}
 use denote.Index.{row, place-is, elem-out, elem-put, opens-slice, closes-slice}
 use denote.Steps.{only, owned, peeks, heard, nothing}
-use denote.Struct.Laws as LL
 use denote.Triple.Entry.{onEntry}
 use denote.Triple.Spec.{Meets, tripleOf}
 use denote.Triple.Statement.{Contract, Triple}
@@ -52,17 +51,18 @@ use denote.Signature.{plain}
 use Rattle.tensor_records.specs.declared.TensorRecord.{TensorRecord}
 use Rattle.tensor_records.specs.Records.{recordOf, filledFrom}
 use Rattle.tensor_records.proofs.Filled.{none-filled, same-length, next-filled, cut-filled}
+use Rattle.tensor_records.proofs.least.Symbol.{name as #tensor-records·least}
+use Rattle.tensor_records.proofs.record_at.Symbol.{name as #tensor-records·record-at}
+use Rattle.tensor_records.proofs.fill.Key.{name as #tensor-records·fill}
+use denote.Struct.Laws as LL
 use Rattle.tensor_records.proofs.TensorRecord as T
 use Rattle.tensor_records.proofs.TensorRecord.Laws as T′
 use Rattle.tensor_records.proofs.least as least
 use Rattle.tensor_records.proofs.least.Symbol as least-def
-use Rattle.tensor_records.proofs.least.Symbol.{name as #tensor-records·least}
 use Rattle.tensor_records.proofs.least.Met as least-thm
 use Rattle.tensor_records.proofs.record_at as at-row
 use Rattle.tensor_records.proofs.record_at.Symbol as at-row-def
-use Rattle.tensor_records.proofs.record_at.Symbol.{name as #tensor-records·record-at}
 use Rattle.tensor_records.proofs.record_at.Met as at-row-thm
-use Rattle.tensor_records.proofs.fill.Key.{name as #tensor-records·fill}
 use Rattle.tensor_records.proofs.fill as fill
 use Rattle.tensor_records.proofs.fill.Statement as stated
 use Rattle.tensor_records.proofs.fill.Code as code

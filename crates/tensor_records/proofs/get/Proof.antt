@@ -32,8 +32,6 @@ use denote.Ref.{RefT, now}
 use denote.Slice.{sliceVal, ShrSlice, Room, slice-vals, shr-slice-tells}
 use denote.Index.{place-is, elem-out, elem-back, looks-slice, shuts-slice}
 use denote.Steps.{owned, nothing}
-use denote.Struct.Laws as LL
-use denote.Enum.Laws as EL
 use denote.Triple.Entry.{onEntry}
 use denote.Triple.Spec.{Meets, tripleOf}
 use denote.Triple.Table.{entered}
@@ -45,11 +43,13 @@ use Rattle.tensor_records.specs.declared.RecordGot.{RecordGot}
 use Rattle.tensor_records.specs.declared.RecordGot.the-variants.{Found, Nothing}
 use Rattle.tensor_records.specs.Records.{blank, gotAt}
 use Rattle.tensor_records.proofs.Chosen.{held, failed}
+use Rattle.tensor_records.proofs.get.Key.{name as #tensor-records·get}
+use denote.Struct.Laws as LL
+use denote.Enum.Laws as EL
 use Rattle.tensor_records.proofs.TensorRecord as T
 use Rattle.tensor_records.proofs.TensorRecord.Laws as T′
 use Rattle.tensor_records.proofs.RecordGot as G
 use Rattle.tensor_records.proofs.RecordGot.Laws as G′
-use Rattle.tensor_records.proofs.get.Key.{name as #tensor-records·get}
 use Rattle.tensor_records.proofs.get as get
 use Rattle.tensor_records.proofs.get.Statement as stated
 use Rattle.tensor_records.proofs.get.Code as code

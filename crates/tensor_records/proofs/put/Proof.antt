@@ -34,7 +34,6 @@ use denote.Ref.{RefT, now}
 use denote.Slice.{sliceVal, MutSlice, Room, slice-vals, mut-slice-tells, at-slice}
 use denote.Index.{place-is, elem-out, elem-put, opens-slice, closes-slice}
 use denote.Steps.{owned, nothing}
-use denote.Struct.Laws as LL
 use denote.Triple.Entry.{onEntry}
 use denote.Triple.Spec.{Meets, tripleOf}
 use denote.Triple.Table.{entered}
@@ -44,9 +43,10 @@ use denote.Signature.{plain}
 use Rattle.tensor_records.specs.declared.TensorRecord.{TensorRecord}
 use Rattle.tensor_records.specs.Records.{keptOf, putAt}
 use Rattle.tensor_records.proofs.Chosen.{held, failed}
+use Rattle.tensor_records.proofs.put.Key.{name as #tensor-records·put}
+use denote.Struct.Laws as LL
 use Rattle.tensor_records.proofs.TensorRecord as T
 use Rattle.tensor_records.proofs.TensorRecord.Laws as T′
-use Rattle.tensor_records.proofs.put.Key.{name as #tensor-records·put}
 use Rattle.tensor_records.proofs.put as put
 use Rattle.tensor_records.proofs.put.Statement as stated
 use Rattle.tensor_records.proofs.put.Code as code

@@ -36,8 +36,6 @@ use denote.Slice.{sliceVal, MutSlice, ShrSlice, Room, finally, slice-vals, mut-s
 use denote.Lend.{lends-shr-slice}
 use denote.Index.{opens-slice, closes-slice}
 use denote.Steps.{only, owned, peeks, heard, nothing}
-use denote.Struct.Laws as LL
-use denote.Enum.Laws as EL
 use denote.Triple.Entry.{onEntry}
 use denote.Triple.Spec.{Meets, tripleOf}
 use denote.Triple.Statement.{Contract, Triple}
@@ -47,35 +45,38 @@ use denote.Triple.Table.{entered as entered-at, cited}
 use denote.Triple.Walked.{onExit, Stays, stay-none, stay-slice, stay-none-slice, gave-slice, walkOf, goes-none, goes-slice, goes-none-slice, goes-gave-slice, Walks, ends-at, walked, walk-meets}
 use denote.Exit.{yes}
 use denote.Signature.{plain}
-use Rattle.fields.specs.Each.{filled}
-use Rattle.fields.specs.Reading.{seen}
-use Rattle.fields.specs.declared.Limits.{Limits}
-use Rattle.fields.proofs.Limits as Lim
-use Rattle.fields.proofs.Limits.Laws as Lim′
-use Rattle.records.specs.Rows.{entryRow, tensorRow}
+use Rattle.reading.specs.Each.{filled}
+use Rattle.reading.specs.Reading.{seen}
+use Rattle.reading.specs.declared.Limits.{Limits}
+use Rattle.values.specs.Rows.{entryRow}
+use Rattle.tensors.specs.Rows.{tensorRow}
 use Rattle.header.specs.Answers.{asHeader}
 use Rattle.header.specs.declared.HeaderRead.{HeaderRead}
-use Rattle.header.proofs.HeaderRead as R
-use Rattle.header.proofs.HeaderRead.Laws as R′
 use Rattle.tensor_records.specs.declared.TensorRecord.{TensorRecord}
 use Rattle.tensor_records.specs.Records.{filledFrom, tensorsIn, tensorRecord, listingOf}
 use Rattle.tensor_records.proofs.Again.{LentAgain, lends-again, comes-back}
 use Rattle.tensor_records.proofs.Facts.{and, last, together, says-all}
 use Rattle.tensor_records.proofs.Listed.{listed}
+use Rattle.tensor_records.proofs.read_within.Symbol.{name as #tensor-records·read-within}
+use Rattle.tensor_records.proofs.tensors_in.Symbol.{name as #tensor-records·tensors-in}
+use Rattle.tensor_records.proofs.fill.Symbol.{name as #tensor-records·fill}
+use Rattle.tensor_records.proofs.read_records.Key.{name as #tensor-records·read-records}
+use denote.Struct.Laws as LL
+use denote.Enum.Laws as EL
+use Rattle.reading.proofs.Limits as Lim
+use Rattle.reading.proofs.Limits.Laws as Lim′
+use Rattle.header.proofs.HeaderRead as R
+use Rattle.header.proofs.HeaderRead.Laws as R′
 use Rattle.tensor_records.proofs.TensorRecord as T
 use Rattle.tensor_records.proofs.read_within as within
 use Rattle.tensor_records.proofs.read_within.Symbol as within-def
-use Rattle.tensor_records.proofs.read_within.Symbol.{name as #tensor-records·read-within}
 use Rattle.tensor_records.proofs.read_within.Met as within-thm
 use Rattle.tensor_records.proofs.tensors_in as inside
 use Rattle.tensor_records.proofs.tensors_in.Symbol as inside-def
-use Rattle.tensor_records.proofs.tensors_in.Symbol.{name as #tensor-records·tensors-in}
 use Rattle.tensor_records.proofs.tensors_in.Met as inside-thm
 use Rattle.tensor_records.proofs.fill as fills
 use Rattle.tensor_records.proofs.fill.Symbol as fills-def
-use Rattle.tensor_records.proofs.fill.Symbol.{name as #tensor-records·fill}
 use Rattle.tensor_records.proofs.fill.Met as fills-thm
-use Rattle.tensor_records.proofs.read_records.Key.{name as #tensor-records·read-records}
 use Rattle.tensor_records.proofs.read_records as reading
 use Rattle.tensor_records.proofs.read_records.Statement as stated
 use Rattle.tensor_records.proofs.read_records.Code as code

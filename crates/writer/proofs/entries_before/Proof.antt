@@ -5,9 +5,9 @@ use mathlib.Core.Path.{_≡_, sym, ap, _∙_}
 use native.Mathlib.Omega.{arith}
 use denote.Ref.{now}
 use Rattle.fields.specs.Order.{before}
-use Rattle.fields.specs.Reading.{run}
-use Rattle.fields.proofs.Turns.{times-never}
-use Rattle.records.specs.Format.{alignmentKey}
+use Rattle.reading.specs.Reading.{run}
+use Rattle.reading.proofs.Turns.{times-never}
+use Rattle.values.specs.Format.{alignmentKey}
 use Rattle.sheet.specs.Format.{metadata}
 use Rattle.sheet.proofs.Steps.{entry-no}
 use Rattle.writer.proofs.Entries.{EntryThere, entry-there, Passed, passed-start, passed-here, passed-turn, passed-end}

@@ -6,14 +6,13 @@ use mathlib.Core.Path.{_≡_, sym, ap, _∙_}
 use native.Mathlib.Omega.{arith}
 use lib.ListN.{length}
 use denote.Ref.{now}
-use Rattle.fields.specs.Back.{got}
-use Rattle.fields.specs.Bytes.{rows}
-use Rattle.fields.specs.Each.{times}
-use Rattle.fields.specs.Reading.{accepted, run}
+use Rattle.reading.specs.Back.{got, rows}
+use Rattle.reading.specs.Each.{times}
+use Rattle.reading.specs.Reading.{accepted, run}
 use Rattle.fields.specs.Value.{asNumber, number}
 use Rattle.fields.proofs.Chain.{chain}
-use Rattle.records.specs.Contents.{saidBytes}
-use Rattle.records.specs.Format.{sizeWidth, depth}
+use Rattle.values.specs.Contents.{saidBytes}
+use Rattle.values.specs.Format.{sizeWidth, depth}
 use Rattle.sheet.specs.Format.{item}
 use Rattle.writer.proofs.Rows.{wrote-as}
 use Rattle.writer.proofs.Said.{ArraySaid, no-type, no-count, array-said}

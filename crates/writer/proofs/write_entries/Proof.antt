@@ -5,12 +5,11 @@ use mathlib.Core.Path.{sym, ap, subst, _∙_}
 use native.Mathlib.Omega.{arith}
 use lib.ListN.{length, length-take, length-drop}
 use denote.Ref.{now}
-use Rattle.fields.specs.Back.{got}
-use Rattle.fields.specs.Bytes.{rows}
-use Rattle.fields.specs.Each.{times}
-use Rattle.fields.specs.Reading.{run}
-use Rattle.fields.proofs.Turns.{times-never}
-use Rattle.records.specs.Contents.{entryBytes}
+use Rattle.reading.specs.Back.{got, rows}
+use Rattle.reading.specs.Each.{times}
+use Rattle.reading.specs.Reading.{run}
+use Rattle.reading.proofs.Turns.{times-never}
+use Rattle.values.specs.Contents.{entryBytes}
 use Rattle.plan.specs.Header.{enteredIn}
 use Rattle.sheet.specs.Format.{metadata}
 use Rattle.sheet.proofs.Steps.{entry-no}

@@ -4,11 +4,11 @@ use Prim.Native.Nat.{_+_}
 use mathlib.Core.Path.{_≡_, sym, ap, _∙_}
 use native.Mathlib.Omega.{arith}
 use denote.Ref.{now}
-use Rattle.fields.specs.Reading.{run}
+use Rattle.reading.specs.Reading.{run}
 use Rattle.fields.specs.Value.{widthOf}
-use Rattle.records.specs.Answers.{asWidth}
-use Rattle.records.specs.Contents.{textBytes}
-use Rattle.records.specs.Format.{scalarWidth, depth}
+use Rattle.scalars.specs.Scalars.{asWidth, scalarWidth}
+use Rattle.values.specs.Contents.{textBytes}
+use Rattle.values.specs.Format.{depth}
 use Rattle.sheet.specs.Format.{item}
 use Rattle.sheet.specs.declared.Stepped.the-variants.{To}
 use Rattle.sheet.proofs.Items.{has-width, item-scalar}

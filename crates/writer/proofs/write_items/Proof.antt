@@ -4,9 +4,9 @@ use mathlib.Core.Path.{sym, ap, subst}
 use native.Mathlib.Omega.{arith}
 use lib.ListN.{length, length-take, length-drop}
 use denote.Ref.{now}
-use Rattle.fields.specs.Reading.{run, isAccepted}
-use Rattle.records.specs.Contents.{saidBytes}
-use Rattle.records.specs.Format.{depth}
+use Rattle.reading.specs.Reading.{run, isAccepted}
+use Rattle.values.specs.Contents.{saidBytes}
+use Rattle.values.specs.Format.{depth}
 use Rattle.plan.specs.Header.{heard}
 use Rattle.sheet.specs.Format.{item}
 use Rattle.sheet.proofs.Steps.{step-yes}

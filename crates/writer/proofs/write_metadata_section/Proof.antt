@@ -6,13 +6,12 @@ use mathlib.Core.List.{map}
 use native.Mathlib.Omega.{arith}
 use lib.ListN.{length}
 use denote.Ref.{now}
-use Rattle.fields.specs.Back.{got}
-use Rattle.fields.specs.Bytes.{rows}
-use Rattle.fields.specs.Each.{times}
-use Rattle.fields.specs.Reading.{run}
+use Rattle.reading.specs.Back.{got, rows}
+use Rattle.reading.specs.Each.{times}
+use Rattle.reading.specs.Reading.{run}
 use Rattle.fields.proofs.Chain.{chain}
-use Rattle.records.specs.Contents.{entryBytes}
-use Rattle.records.specs.Format.{sizeWidth}
+use Rattle.values.specs.Contents.{entryBytes}
+use Rattle.values.specs.Format.{sizeWidth}
 use Rattle.plan.specs.Header.{inserted, entriesWith, enteredIn}
 use Rattle.sheet.specs.Format.{metadata}
 use Rattle.writer.proofs.Entries.{written, Apart, apart-mid, apart}

@@ -5,11 +5,11 @@ use mathlib.Core.Path.{_≡_, sym, ap, subst, _∙_}
 use native.Mathlib.Omega.{arith}
 use lib.ListN.{length}
 use denote.Ref.{now}
-use Rattle.fields.specs.Reading.{run, isAccepted}
+use Rattle.reading.specs.Reading.{run, isAccepted}
 use Rattle.fields.specs.Value.{widthOf}
-use Rattle.records.specs.Answers.{asWidth}
-use Rattle.records.specs.Contents.{saidBytes}
-use Rattle.records.specs.Format.{scalarWidth, depth}
+use Rattle.scalars.specs.Scalars.{asWidth, scalarWidth}
+use Rattle.values.specs.Contents.{saidBytes}
+use Rattle.values.specs.Format.{depth}
 use Rattle.plan.specs.Header.{heard}
 use Rattle.sheet.specs.Format.{array, item, value}
 use Rattle.sheet.proofs.Items.{has-width, value-scalar, value-array}

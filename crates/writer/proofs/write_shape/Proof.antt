@@ -1,7 +1,7 @@
 -- `writer::write_shape` meets its contract: the count, and a length for each of the four places. Assumes nothing.
-use Rattle.fields.proofs.Chain.{chain}
-use Rattle.records.specs.Contents.{shapeBytes}
 use borrow.Author.Needs.{needs}
+use Rattle.fields.proofs.Chain.{chain}
+use Rattle.tensors.specs.Contents.{shapeBytes}
 use Rattle.writer.proofs.write_shape.Statement.{statement}
 use Rattle.writer.proofs.write_shape.Tie as tie
 

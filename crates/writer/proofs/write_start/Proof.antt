@@ -1,8 +1,8 @@
 -- `writer::write_start` meets its contract: magic, version and both counts, one after the other. Assumes nothing.
-use Rattle.fields.proofs.Chain.{chain}
-use Rattle.header.specs.Contents.{startBytes}
-use Rattle.records.specs.Contents.{typeBytes}
 use borrow.Author.Needs.{needs}
+use Rattle.fields.proofs.Chain.{chain}
+use Rattle.start.specs.Contents.{startBytes}
+use Rattle.values.specs.Contents.{typeBytes}
 use Rattle.writer.proofs.write_start.Statement.{statement}
 use Rattle.writer.proofs.write_start.Tie as tie
 

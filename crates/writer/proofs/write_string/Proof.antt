@@ -1,7 +1,7 @@
 -- `writer::write_string` meets its contract: the size and the bytes, one after the other. Assumes nothing.
 use borrow.Author.Needs.{needs}
 use Rattle.fields.proofs.Chain.{chain}
-use Rattle.records.specs.Contents.{textBytes}
+use Rattle.values.specs.Contents.{textBytes}
 use Rattle.writer.proofs.write_string.Statement.{statement}
 use Rattle.writer.proofs.write_string.Tie as tie
 

@@ -6,13 +6,13 @@ use mathlib.Core.Path.{sym, _∙_}
 use native.Mathlib.Omega.{arith}
 use denote.Ref.{now}
 use lib.ListN.{length, length-take, length-drop}
-use Rattle.fields.specs.Back.{got}
-use Rattle.fields.specs.Bytes.{rows}
-use Rattle.fields.specs.Each.{times}
-use Rattle.fields.specs.Reading.{run}
+use Rattle.reading.specs.Back.{got, rows}
+use Rattle.reading.specs.Each.{times}
+use Rattle.reading.specs.Reading.{run}
 use Rattle.layout.specs.Layout.{nothingLaid}
-use Rattle.records.specs.Format.{sizeWidth}
-use Rattle.records.specs.Contents.{insideOf, tensorBytes}
+use Rattle.values.specs.Format.{sizeWidth}
+use Rattle.values.specs.Contents.{insideOf}
+use Rattle.tensors.specs.Contents.{tensorBytes}
 use Rattle.sheet.specs.Format.{Drawn, tensor}
 use Rattle.sheet.proofs.Steps.{Shows, tensor-no, tensor-yes}
 use Rattle.plan.specs.Header.{weightsFrom}

@@ -1,0 +1,4 @@
+pub mod RowsForCounts
+pub mod Low
+pub mod Back
+pub mod Ends

@@ -1,0 +1,59 @@
+-- `header::read_version` meets its contract: a number of four bytes, the test of refusal 4, and then the ceiling. Assumes nothing.
+use borrow.Author.Needs.{needs}
+use borrow.Author.Tests.{le-leb, lt-leb, eq-eqb, ne-eqb}
+use mathlib.Core.Path.{_≡_, refl, sym, ap, _∙_}
+use denote.Ref.{now}
+use Rattle.reading.specs.Reading.{accepted, run, here, andThen}
+use Rattle.fields.specs.Value.{number, asNumber}
+use Rattle.reading.specs.Ceilings.{under}
+use Rattle.reading.proofs.Ceilings.{run-under}
+use Rattle.fields.proofs.NumberFields.{under-number}
+use Rattle.fields.proofs.Numbers.{number-refused}
+use Rattle.start.specs.Format.{version}
+use Rattle.start.proofs.read_version.Statement.{statement}
+use Rattle.start.proofs.read_version.Tie as tie
+
+-- the number that was read
+numbered : (c : tie.After-value) →
+    let a = c .before .before .before .before .args in
+    accepted (c .value .given .0 .0) (c .value .given .0 .1 .0) ≡ run (number 4 (a .big)) (now (a .s)) (a .at)
+numbered c = ap asNumber (sym (c .value .given .1)) ∙ c .before .before .number-at .ensures
+
+returns : tie.Need-returns
+unfolding version here under run andThen
+returns c =
+    let r = number-refused 4 _ _ _ (ap asNumber (sym (c .enum-told .given .1)) ∙ c .before .before .number-at .ensures) in
+    rw (run-under, run-under, under-number, ← r) refl
+
+returns-2 : tie.Need-returns-2
+unfolding version here under run andThen
+returns-2 c =
+    rw (run-under, run-under, under-number, ← numbered (c .before .before), run-under, eq-eqb _ _ (c .if1 .taken)) refl
+
+returns-3 : tie.Need-returns-3
+unfolding version here under run andThen
+returns-3 c =
+    rw (run-under, run-under, under-number, ← numbered (c .before .before .before), run-under, ne-eqb _ _ (c .before .if1 .left), lt-leb _ _ (c .if2 .taken)) refl
+
+returns-4 : tie.Need-returns-4
+unfolding version here under run andThen
+returns-4 c =
+    rw (run-under, run-under, under-number, ← numbered (c .before .before .before .before .before), run-under, ne-eqb _ _ (c .before .before .before .if1 .left), le-leb _ _ (c .before .before .if2 .left), run-under, lt-leb _ _ (c .if3 .taken)) refl
+
+returns-5 : tie.Need-returns-5
+unfolding version here under run andThen
+returns-5 c =
+    rw (run-under, run-under, under-number, ← numbered (c .before .before .before .before .before), run-under, ne-eqb _ _ (c .before .before .before .if1 .left), le-leb _ _ (c .before .before .if2 .left), run-under, le-leb _ _ (c .if3 .left)) refl
+
+pub read-version-spec : {M : Type 1} → statement M
+read-version-spec =
+    tie.close
+    (tie.spec
+    (λ c κs. search needs)
+    (λ c. search needs)
+    (λ c. search needs)
+    returns
+    returns-2
+    returns-3
+    returns-4
+    returns-5)

@@ -1,0 +1,295 @@
+-- What was accepted once can be read again with no test: each field of a tensor stands where those before it end. Assumes nothing.
+use Prim.Native.Nat.{ℕ, _+_, _-_, _*_, _/_, _^_, _≤_, _<_, min}
+use mathlib.Core.Path.{_≡_, refl, sym, ap, subst, _∙_}
+use mathlib.Core.List.{List, [], _∷_}
+use mathlib.Core.Bool.{Bool, true, false}
+use native.Mathlib.Omega.{arith}
+use native.Mathlib.Nat.{one-mul}
+use lib.Dec.{leb, ltb}
+use lib.ListN.{length, take, drop}
+use lib.Seq.{take-take}
+use borrow.Author.Tests.{leb-true, ltb-true, ltb-false}
+use Rattle.reading.specs.Back.{Sure}
+use Rattle.reading.specs.Choice.{if_then_else_}
+use Rattle.reading.specs.Each.{each}
+use Rattle.reading.specs.Reading.{aKind, Answer, accepted, refused, run, here, isAccepted, _>>=_}
+use Rattle.fields.specs.Value.{value, number}
+use Rattle.reading.proofs.Laws.{goes-on}
+use Rattle.reading.proofs.Sure.{sure-then, sure-done, sure-here, sure-mark, sure-check, sure-if, sure-field, sure-so, sure-run, whatever}
+use Rattle.reading.proofs.Turns.{each-never}
+use Rattle.kinds.specs.Shape.{greatest, productOf, productsFitFrom, productsFit, bytesBefore, sizeFits, sizeOf}
+use Rattle.kinds.specs.Table.{blockOf, knownKind}
+use Rattle.tensors.specs.Format.{lengths, lengthAt, lengthsOf, shape, stored, tensor, totalOf}
+use Rattle.values.specs.Format.{sizeWidth, size, textLooking, text}
+use Rattle.tensors.specs.Steps.{lengthThere, shapeThere, inOrder, rest, tensorOf}
+use Rattle.kinds.specs.declared.Block.{Block}
+use Rattle.values.specs.declared.Dialect.{Dialect}
+use Rattle.tensors.specs.declared.Shape.{Shape}
+use Rattle.values.specs.declared.Span.{Span}
+use Rattle.tensors.specs.declared.Stored.{Stored}
+use Rattle.tensors.specs.declared.Tensor.{Tensor}
+use Rattle.tensors.specs.declared.Again.{Again}
+
+-- what an answer that is no refusal holds
+held : {A : Type 0} (r : Answer A) → isAccepted r ≡ true → (a : A) × (q : ℕ) × (accepted a q ≡ r)
+held (accepted a q) h = (a, q, refl)
+held (refused n p) h = let z : _≡_ {A = ℕ} 0 1 = cc in absurd (omega arith)
+
+-- v is the number of the field of w bytes at p, which is wholly there, and q is the place after it
+record Field (s : List ℕ) (w : ℕ) (big : Bool) (p v q : ℕ) : Type 0 where
+  is : v ≡ value big (take w (drop p s))
+  after : q ≡ p + w
+  inside : p + w ≤ length s
+
+sure-there : (s : List ℕ) (w : ℕ) (big : Bool) (p : ℕ) → Sure s (number w big) p (λ v q. Field s w big p v q)
+unfolding number
+sure-there s w big p = sure-field (λ there. record { is = ap (value big) (take-take w w (drop p s) (omega arith)); after = refl; inside = there })
+
+-- Names.
+
+-- the name whose size, of w bytes, stands at p
+abbrev pub nameThere : List ℕ → ℕ → Bool → ℕ → Span
+nameThere s p big w = record { place = p + w; len = value big (take w (drop p s)) }
+
+-- the size is there, the name is what it says, and its bytes are there
+record Named (k : Dialect) (s : List ℕ) (p w : ℕ) (a : Span) (q : ℕ) : Type 0 where
+  inside : p + w ≤ length s
+  is : accepted a q ≡ accepted (nameThere s p (k .big) w) (p + w + nameThere s p (k .big) w .len)
+  ends : q ≤ length s
+
+sure-name : (k : Dialect) (s : List ℕ) (p : ℕ) → Sure s (text k) p (λ a q. Named k s p (sizeWidth k) a q)
+unfolding text textLooking size
+sure-name k s p =
+    sure-here _ (sure-then (sure-there s (sizeWidth k) (k .big) p) (λ n q h. sure-check (leb n (2 ^ 30)) 7 p _ (λ e.
+    sure-here _ (sure-field (λ there. record { inside = h .inside; is = rw (h .is, h .after) refl; ends = there })))))
+
+-- what is so of a name that is there, where a size has w bytes
+pub record NameThere (k : Dialect) (s : List ℕ) (p w : ℕ) : Type 0 where
+  pub inside : p + w ≤ length s
+  pub is : accepted (nameThere s p (k .big) w) (p + w + nameThere s p (k .big) w .len) ≡ run (text k) s p
+
+-- a name that was accepted is there
+pub name-there : (k : Dialect) (s : List ℕ) (p : ℕ) → isAccepted (run (text k) s p) ≡ true → {w : ℕ} → sizeWidth k ≡ w → NameThere k s p w
+name-there k s p all wide =
+    let r = held (run (text k) s p) all in
+    let h = rw wide at (sure-name k s p .holds (r .0) (r .1) (r .2)) in
+    record { inside = h .inside; is = sym (h .is) ∙ r .2 }
+
+-- a name that was accepted ends within the bytes
+pub name-ends : (k : Dialect) (s : List ℕ) (p : ℕ) {a : Span} {q : ℕ} → accepted a q ≡ run (text k) s p → q ≤ length s
+name-ends k s p {a} {q} e = sure-name k s p .holds a q e .ends
+
+-- What stands after a name.
+
+-- the length i, where those before it end at p
+sure-length : (s : List ℕ) (big : Bool) (n from i : ℕ) {p : ℕ} → p ≡ from + 8 * min i n → p ≤ length s
+    → Sure s (lengthAt (inOrder big) n i) p (λ v q. (v ≡ lengthThere s from big n i) × (q ≡ from + 8 * min (i + 1) n) × (q ≤ length s))
+unfolding lengthAt
+sure-length s big n from i {p} at within =
+    sure-if (ltb i n) _ _
+    (λ e.
+    let below : i < n = ltb-true i n e in
+    let place : p ≡ from + 8 * i = omega arith in
+    sure-so (sure-there s 8 big p) (λ v q h. (rw e (rw place at (h .is)), omega (arith, h .after), omega (arith, h .after, h .inside))))
+    (λ e.
+    let past : n ≤ i = ltb-false i n e in
+    sure-done (rw e refl, omega arith, within))
+
+sure-lengths : (s : List ℕ) (big : Bool) (n from : ℕ) → n ≤ 4 → from ≤ length s → Sure s (lengthsOf (inOrder big) n) from (λ x q. (x ≡ shapeThere s from big n) × (q ≡ from + 8 * n) × (q ≤ length s))
+unfolding lengthsOf
+sure-lengths s big n from few within =
+    sure-then (sure-length s big n from 0 (omega arith) within) (λ a p f. sure-then (sure-length s big n from 1 (f .1) (f .2)) (λ b q g.
+    sure-then (sure-length s big n from 2 (g .1) (g .2)) (λ c r h. sure-then (sure-length s big n from 3 (h .1) (h .2)) (λ d u i.
+    sure-done (rw (f .0, g .0, h .0, i .0) refl, omega (arith, i .1), i .2)))))
+
+-- the shape that begins with the dimension count n at p
+record Shaped (s : List ℕ) (p : ℕ) (big : Bool) (n : ℕ) (x : Shape) (q : ℕ) : Type 0 where
+  few : n ≤ 4
+  is : x ≡ shapeThere s (p + 4) big n
+  after : q ≡ p + 4 + 8 * n
+
+sure-shape : (s : List ℕ) (p : ℕ) (big : Bool) → Sure s (shape (inOrder big)) p (λ x q. Shaped s p big (value big (take 4 (drop p s))) x q)
+unfolding shape
+sure-shape s p big =
+    sure-here _ (sure-then (sure-there s 4 big p) (λ n q h. sure-check (leb n 4) 10 p _ (λ e.
+    sure-so (sure-lengths s big n q (leb-true n 4 e) (omega (arith, h .after, h .inside))) (λ x r g.
+    subst (λ m. Shaped s p big m x r) (h .is) (record { few = leb-true n 4 e; is = rw (h .after) at (g .0); after = omega (arith, h .after, g .1) })))))
+
+-- the kind and the offset at p, of which the kind is known
+record Kept (s : List ℕ) (p : ℕ) (big : Bool) (y : Stored) (q : ℕ) : Type 0 where
+  inside : p + 12 ≤ length s
+  kind : y .kind ≡ value big (take 4 (drop p s))
+  offset : y .offset ≡ value big (take 8 (drop (p + 4) s))
+  after : q ≡ p + 12
+  known : knownKind (y .kind) ≡ true
+
+sure-stored : (s : List ℕ) (p : ℕ) (big : Bool) → Sure s (stored (inOrder big)) p (λ y q. Kept s p big y q)
+unfolding stored
+sure-stored s p big =
+    sure-here _ (sure-then (sure-there s 4 big p) (λ t q h. sure-then (sure-there s 8 big q) (λ o r g. sure-check (knownKind t) 11 p _ (λ e.
+    sure-mark aKind t p _ (sure-done (record { inside = omega (arith, h .after, g .inside); kind = h .is; offset = rw (h .after) at (g .is); after = omega (arith, h .after, g .after); known = e }))))))
+
+-- what stands after a name that ends at p, where it begins with the dimension count n
+abbrev pub restThere : List ℕ → ℕ → Bool → ℕ → Again
+restThere s p big n =
+    record {
+      shape = shapeThere s (p + 4) big n;
+      kind = value big (take 4 (drop (p + 4 + 8 * n) s));
+      offset = value big (take 8 (drop (p + 4 + 8 * n + 4) s));
+      next = p + 4 + 8 * n + 12;
+    }
+
+-- it is there, and its kind is known
+record Rested (s : List ℕ) (p : ℕ) (big : Bool) (n : ℕ) (x : Again) (q : ℕ) : Type 0 where
+  few : n ≤ 4
+  inside : p + 4 + 8 * n + 12 ≤ length s
+  is : accepted x q ≡ accepted (restThere s p big n) (p + 4 + 8 * n + 12)
+  known : knownKind (x .kind) ≡ true
+
+sure-rest : (s : List ℕ) (p : ℕ) (big : Bool) → Sure s (rest big) p (λ x q. Rested s p big (value big (take 4 (drop p s))) x q)
+unfolding rest
+sure-rest s p big =
+    sure-then (sure-shape s p big) (λ x q h. sure-then (sure-stored s q big) (λ y r g. sure-here _ (sure-done (
+    let k = rw (h .after) at (g .kind) in
+    let o = rw (h .after) at (g .offset) in
+    let n = rw (h .after) at (g .after) in
+    record { few = h .few; inside = omega (arith, h .after, g .inside); is = rw (h .is, k, o, n) refl; known = g .known }))))
+
+-- what is so of it where it is there
+pub record RestThere (s : List ℕ) (p : ℕ) (big : Bool) (n : ℕ) : Type 0 where
+  pub few : n ≤ 4
+  pub inside : p + 4 + 8 * n + 12 ≤ length s
+  pub is : accepted (restThere s p big n) (p + 4 + 8 * n + 12) ≡ run (rest big) s p
+
+-- what was accepted after a name is there
+pub rest-there : (s : List ℕ) (p : ℕ) (big : Bool) → isAccepted (run (rest big) s p) ≡ true → {n : ℕ} → n ≡ value big (take 4 (drop p s)) → RestThere s p big n
+rest-there s p big all count =
+    let r = held (run (rest big) s p) all in
+    let h = sure-rest s p big .holds (r .0) (r .1) (r .2) in
+    subst (RestThere s p big) (sym count) (record { few = h .few; inside = h .inside; is = sym (h .is) ∙ r .2 })
+
+-- What fits.
+
+-- one product, and those that follow it
+fit-cases : (x n : ℕ) (l : List ℕ) (b : Bool) → leb (x * n) greatest ≡ b → (if b then productsFitFrom (x * n) l else false) ≡ true → (x * n ≤ greatest) × (productsFitFrom (x * n) l ≡ true)
+fit-cases x n l true e h = (leb-true _ _ e, h)
+fit-cases x n l false e h = let z : _≡_ {A = ℕ} 0 1 = cc in absurd (omega arith)
+
+fit-one : (x n : ℕ) (l : List ℕ) → productsFitFrom x (n ∷ l) ≡ true → (x * n ≤ greatest) × (productsFitFrom (x * n) l ≡ true)
+fit-one x n l h = fit-cases x n l (leb (x * n) greatest) refl h
+
+-- the products of a shape one after the other, and the bytes of a kind's blocks
+module _ (x : Shape) (k : ℕ) where
+  pub record Products : Type 0 where
+    pub plane : x .first * x .second ≤ greatest
+    pub solid : x .first * x .second * x .third ≤ greatest
+    pub whole : x .first * x .second * x .third * x .fourth ≤ greatest
+    pub bytes : x .first * x .second * x .third * x .fourth * blockOf k .bytes ≤ greatest
+
+  pub products : productsFit (lengths x) ≡ true → sizeFits (lengths x) k ≡ true → Products
+  products h g =
+      let a = fit-one 1 (x .first) (x .second ∷ x .third ∷ x .fourth ∷ []) h in
+      let b = fit-one (1 * x .first) (x .second) (x .third ∷ x .fourth ∷ []) (a .1) in
+      let c = fit-one (1 * x .first * x .second) (x .third) (x .fourth ∷ []) (b .1) in
+      let d = fit-one (1 * x .first * x .second * x .third) (x .fourth) [] (c .1) in
+      let e : 1 * x .first ≡ x .first = one-mul (x .first) in
+      record { plane = rw e at (b .0); solid = rw e at (c .0); whole = rw e at (d .0); bytes = rw e at (leb-true (bytesBefore (lengths x) k) greatest g) }
+
+  -- the size, as it is made of the lengths and the block
+  pub size-is : {b : Block} → b ≡ blockOf k → x .first * x .second * x .third * x .fourth * b .bytes / b .numbers ≡ sizeOf (lengths x) k
+  size-is e = rw (e, one-mul)
+
+-- Tensors.
+
+-- neither the shape nor the kind and the offset look at the version
+order-shape : (k : Dialect) → shape k ≡ shape (inOrder (k .big))
+unfolding shape lengthsOf lengthAt
+order-shape k = refl
+
+order-stored : (k : Dialect) → stored k ≡ stored (inOrder (k .big))
+unfolding stored
+order-stored k = refl
+
+-- the parts of the tensor t at p, which ends at q, and what fits of it
+record Parts (k : Dialect) (s : List ℕ) (p : ℕ) (t : Tensor) (q : ℕ) : Type 0 where
+  name : Span
+  middle : ℕ
+  again : Again
+  named : accepted name middle ≡ run (text k) s p
+  rested : accepted again (again .next) ≡ run (rest (k .big)) s middle
+  ends : again .next ≡ q
+  is : tensorOf name again ≡ t
+  products : productsFit (lengths (again .shape)) ≡ true
+  size : sizeFits (lengths (again .shape)) (again .kind) ≡ true
+
+-- a shape, and then a kind and an offset
+rest-of : (k : Dialect) (s : List ℕ) (p : ℕ) {x : Shape} {q : ℕ} → accepted x q ≡ run (shape k) s p → {y : Stored} {r : ℕ} → accepted y r ≡ run (stored k) s q
+    → accepted (record { shape = x; kind = y .kind; offset = y .offset; next = r }) r ≡ run (rest (k .big)) s p
+unfolding rest here run _>>=_
+rest-of k s p {x} {q} e {y} {r} f =
+    sym (goes-on (shape (inOrder (k .big))) _ s p (e ∙ ap (λ m. run m s p) (order-shape k)) ∙ goes-on (stored (inOrder (k .big))) _ s q (f ∙ ap (λ m. run m s q) (order-stored k)))
+
+sure-parts : (k : Dialect) (s : List ℕ) (total p : ℕ) → Sure s (tensor k total) p (λ t q. Parts k s p t q)
+unfolding tensor
+sure-parts k s total p =
+    sure-here _ (sure-then (sure-run whatever) (λ a q e. sure-then (sure-run whatever) (λ x r f. sure-then (sure-run whatever) (λ y u g.
+    sure-check (productsFit (lengths x)) 13 p _ (λ fit. sure-check (sizeFits (lengths x) (y .kind)) 14 p _ (λ fits.
+    sure-check (leb (total + productOf (lengths x)) greatest) 15 p _ (λ below. sure-done
+    (record {
+      name = a;
+      middle = q;
+      again = record { shape = x; kind = y .kind; offset = y .offset; next = u };
+      named = e .1;
+      rested = rest-of k s q (f .1) (g .1);
+      ends = refl;
+      is = refl;
+      products = fit;
+      size = fits;
+    }))))))))
+
+-- a name and what stands after it are a tensor, where the total is the one given, and all of it fits
+pub record Found (k : Dialect) (s : List ℕ) (p total : ℕ) (a : Span) (x : Again) : Type 0 where
+  pub read : accepted (tensorOf a x) (x .next) ≡ run (tensor k total) s p
+  pub known : knownKind (x .kind) ≡ true
+  pub products : productsFit (lengths (x .shape)) ≡ true
+  pub size : sizeFits (lengths (x .shape)) (x .kind) ≡ true
+
+-- where as many as are left are there, so is the next, and its parts are what is read again
+module _ (k : Dialect) (s : List ℕ) (p n i total : ℕ) (below : i < n) (all : isAccepted (run (each (tensor k) totalOf (n - i) total) s p) ≡ true) where
+  next-cases : (r : Answer Tensor) → r ≡ run (tensor k total) s p → (t : Tensor) × (q : ℕ) × (accepted t q ≡ run (tensor k total) s p) × Parts k s p t q
+  next-cases (accepted t q) e = (t, q, e, sure-parts k s total p .holds t q e)
+  next-cases (refused w o) e = absurd (each-never (tensor k) totalOf s p n i total below e all)
+
+  next : (t : Tensor) × (q : ℕ) × (accepted t q ≡ run (tensor k total) s p) × Parts k s p t q
+  next = next-cases (run (tensor k total) s p) refl
+
+  pub next-name : isAccepted (run (text k) s p) ≡ true
+  next-name = ap isAccepted (sym (next .3 .named))
+
+  next-found : Found k s p total (next .3 .name) (next .3 .again)
+  next-found =
+      let g = next .3 in
+      record {
+        read = rw (g .is, g .ends) (next .2);
+        known = sure-rest s (g .middle) (k .big) .holds (g .again) (g .again .next) (g .rested) .known;
+        products = g .products;
+        size = g .size;
+      }
+
+  module _ {a : Span} (e : accepted a (a .place + a .len) ≡ run (text k) s p) where
+    same-name : accepted (next .3 .name) (next .3 .middle) ≡ accepted a (a .place + a .len)
+    same-name = next .3 .named ∙ sym e
+
+    middle : a .place + a .len ≡ next .3 .middle
+    middle = let h = same-name in cc
+
+    pub next-rest : isAccepted (run (rest (k .big)) s (a .place + a .len)) ≡ true
+    next-rest = rw middle (ap isAccepted (sym (next .3 .rested)))
+
+    pub found-again : {x : Again} → accepted x (x .next) ≡ run (rest (k .big)) s (a .place + a .len) → Found k s p total a x
+    found-again {x} f =
+        let h = same-name in
+        let g = next .3 .rested ∙ ap (run (rest (k .big)) s) (sym middle) ∙ sym f in
+        let name : next .3 .name ≡ a = cc in
+        let again : next .3 .again ≡ x = cc in
+        subst (λ b. Found k s p total b x) name (subst (Found k s p total (next .3 .name)) again next-found)

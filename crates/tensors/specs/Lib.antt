@@ -1,0 +1,5 @@
+pub mod Format
+pub mod Answers
+pub mod Rows
+pub mod Contents
+pub mod Steps

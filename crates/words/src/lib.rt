@@ -1,0 +1,154 @@
+// The answers of the exported functions as numbers: one that is returned, and eight words.
+use header::HeaderRead;
+use lookup::FileTypeTold;
+use lookup::Lookup;
+use ranges::RangeCheck;
+use values::Value;
+use writer::HeaderWritten;
+ghost use mathlib.Core.Path.{_≡_};
+ghost use Rattle.header.specs.Answers.{asHeader};
+ghost use Rattle.words.specs.Words as words;
+
+// Beside refusals' numbers and those of a string question: the file's type is none of the table.
+pub const TOLD_UNKNOWN: u64 = 102;
+
+// A word and seven zeros.
+pub fn alone(word: u64) -> [u64; 8]
+    ensures { λ r. ⌜ r ≡ words.alone word ⌝ }
+{
+    [word, 0, 0, 0, 0, 0, 0, 0]
+}
+
+// The number of an answer.
+pub fn number_of(read: HeaderRead) -> u64
+    ensures { λ r. ⌜ r ≡ words.numberOf (asHeader read) ⌝ }
+{
+    match read {
+        HeaderRead::Found { header: _ } => 0,
+        HeaderRead::Refused { why, place: _ } => why,
+    }
+}
+
+// The words of an answer.
+pub fn words_of(read: HeaderRead) -> [u64; 8]
+    ensures { λ r. ⌜ r ≡ words.wordsOf (asHeader read) ⌝ }
+{
+    match read {
+        HeaderRead::Refused { why: _, place } => alone(place as u64),
+        HeaderRead::Found { header } => [
+            header.version,
+            if header.big { 1 } else { 0 },
+            header.entries,
+            header.tensors,
+            header.alignment,
+            header.end as u64,
+            header.start,
+            0,
+        ],
+    }
+}
+
+// The number of a range check.
+pub fn range_number(check: RangeCheck) -> u64
+    ensures { λ r. ⌜ r ≡ words.rangeNumber check ⌝ }
+{
+    match check {
+        RangeCheck::Inside => 0,
+        RangeCheck::Refused { why, tensor: _ } => why,
+    }
+}
+
+// The words of a range check.
+pub fn range_words(check: RangeCheck) -> [u64; 8]
+    ensures { λ r. ⌜ r ≡ words.rangeWords check ⌝ }
+{
+    match check {
+        RangeCheck::Inside => alone(0),
+        RangeCheck::Refused { why: _, tensor } => alone(tensor as u64),
+    }
+}
+
+// The number of a lookup.
+pub fn entry_number(found: Lookup) -> u64
+    ensures { λ r. ⌜ r ≡ words.entryNumber found ⌝ }
+{
+    match found {
+        Lookup::Found { entry: _ } => 0,
+        Lookup::Absent => lookup::TOLD_ABSENT,
+        Lookup::Refused { why, place: _ } => why,
+    }
+}
+
+// The words of a lookup.
+pub fn entry_words(found: Lookup) -> [u64; 8]
+    ensures { λ r. ⌜ r ≡ words.entryWords found ⌝ }
+{
+    match found {
+        Lookup::Absent => alone(0),
+        Lookup::Refused { why: _, place } => alone(place as u64),
+        Lookup::Found { entry } => {
+            let row = values::entry_row(entry);
+            [row[0], row[1], row[2], row[3], row[4], row[5], row[6], 0]
+        }
+    }
+}
+
+// The words of a string question.
+pub fn string_words(found: Lookup) -> [u64; 8]
+    ensures { λ r. ⌜ r ≡ words.stringWords found ⌝ }
+{
+    match found {
+        Lookup::Absent => alone(0),
+        Lookup::Refused { why: _, place } => alone(place as u64),
+        Lookup::Found { entry } => {
+            let v = entry.value;
+            match v {
+                Value::Single(_) => alone(0),
+                Value::Array(_) => alone(0),
+                Value::Text(a) => [a.place as u64, a.len as u64, 0, 0, 0, 0, 0, 0],
+            }
+        }
+    }
+}
+
+// The number of a file type's answer.
+pub fn type_number(told: FileTypeTold) -> u64
+    ensures { λ r. ⌜ r ≡ words.typeNumber told ⌝ }
+{
+    match told {
+        FileTypeTold::Known { number: _ } => 0,
+        FileTypeTold::Unknown => TOLD_UNKNOWN,
+        FileTypeTold::Refused { why, place: _ } => why,
+    }
+}
+
+// The words of a file type's answer.
+pub fn type_words(told: FileTypeTold) -> [u64; 8]
+    ensures { λ r. ⌜ r ≡ words.typeWords told ⌝ }
+{
+    match told {
+        FileTypeTold::Known { number } => alone(number),
+        FileTypeTold::Unknown => alone(0),
+        FileTypeTold::Refused { why: _, place } => alone(place as u64),
+    }
+}
+
+// The number of a writer's answer.
+pub fn written_number(written: HeaderWritten) -> u64
+    ensures { λ r. ⌜ r ≡ words.writtenNumber written ⌝ }
+{
+    match written {
+        HeaderWritten::Written { end: _, start: _ } => 0,
+        HeaderWritten::Refused { why, place: _ } => why,
+    }
+}
+
+// The words of a writer's answer.
+pub fn written_words(written: HeaderWritten) -> [u64; 8]
+    ensures { λ r. ⌜ r ≡ words.writtenWords written ⌝ }
+{
+    match written {
+        HeaderWritten::Refused { why: _, place } => alone(place as u64),
+        HeaderWritten::Written { end, start } => [end as u64, start as u64, 0, 0, 0, 0, 0, 0],
+    }
+}
