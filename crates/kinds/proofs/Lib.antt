@@ -3,3 +3,4 @@ pub mod Products
 pub mod Measures
 pub mod Answers
 pub mod Examples
+pub mod KnownProducts

@@ -15,13 +15,13 @@ use Rattle.kinds.specs.Table.{blockOf, knownKind}
 use Rattle.kinds.specs.Shape.{greatest, productOf, productsFit, wholeOf, measureOf}
 use Rattle.kinds.proofs.Products.{fitted, answered, refused}
 
--- n numbers in blocks of the kind k, of which a is one: whether their bytes fit
-module _ (n k : ℕ) {a : Block} (is : a ≡ blockOf k) where
-  pub many-fit : {m : ℕ} → Fits m ≡ fitted (a .bytes * n) → true ≡ leb (n * blockOf k .bytes) greatest
-  many-fit e = rw (mul-comm, ← is) (sym (answered (leb (a .bytes * n) greatest) (a .bytes * n) e .0))
+-- n numbers in blocks of the kind k, each of b bytes: whether their bytes fit
+module _ (n k : ℕ) {b : ℕ} (is : b ≡ blockOf k .bytes) where
+  pub many-fit : {m : ℕ} → Fits m ≡ fitted (b * n) → true ≡ leb (n * blockOf k .bytes) greatest
+  many-fit e = rw (mul-comm, ← is) (sym (answered (leb (b * n) greatest) (b * n) e .0))
 
-  pub many-not : Over ≡ fitted (a .bytes * n) → false ≡ leb (n * blockOf k .bytes) greatest
-  many-not e = rw (mul-comm, ← is) (sym (refused (leb (a .bytes * n) greatest) (a .bytes * n) e))
+  pub many-not : Over ≡ fitted (b * n) → false ≡ leb (n * blockOf k .bytes) greatest
+  many-not e = rw (mul-comm, ← is) (sym (refused (leb (b * n) greatest) (b * n) e))
 
 -- a is the block of the kind k
 module _ (s : List ℕ) (k : ℕ) {a : Block} (is : a ≡ blockOf k) where

@@ -1,10 +1,11 @@
--- The table row after row: a test over all of its kinds that the checker computes. It shows what a match leaves over, that what is written is known, and that blocks are small.
+-- The table row after row: a test over its kinds that the checker computes. It shows what a range, an arm and the rest of a match hold, that what is written is known, and that
+-- blocks are small.
 -- Assumes nothing.
-use mathlib.Core.Path.{_≡_, refl, sym}
+use mathlib.Core.Path.{_≡_, refl, sym, ap}
 use mathlib.Core.Bool.{Bool, true, false, _&&_, _||_}
 use mathlib.Core.List.{List, [], _∷_}
 use mathlib.Core.Logic.{inl, inr}
-use Prim.Native.Nat.{ℕ, zero, suc, _≤_, _<_}
+use Prim.Native.Nat.{ℕ, zero, suc, _+_, _-_, _≤_, _<_}
 use native.Mathlib.Omega.{arith}
 use lib.Dec.{T, ltb, ltb→lt, eqb, eqb→eq}
 use lib.ListN.{length, List·getD-eq-default}
@@ -31,6 +32,29 @@ pub past : (k : ℕ) → length kindTable ≤ k → noKind ≡ blockOf k
 unfolding blockOf
 past k h = sym (List·getD-eq-default kindTable noKind h)
 
+-- kinds in a row, of which each block holds n numbers
+pub in-range : (n from count : ℕ) → T (every (λ i. eqb n (blockOf (from + i) .numbers)) count) → (k : ℕ) → from ≤ k → k < from + count → n ≡ blockOf k .numbers
+in-range n from count t k low high =
+    let e : from + (k - from) ≡ k = omega arith in
+    let same : n ≡ blockOf (from + (k - from)) .numbers =
+    eqb→eq n (blockOf (from + (k - from)) .numbers) (at (λ i. eqb n (blockOf (from + i) .numbers)) count t (k - from) (omega arith)) in
+    rw e at same
+
+-- the keys of an arm of a match, of which each block takes b bytes
+abbrev allTake : ℕ → List ℕ → Bool
+allTake b [] = true
+allTake b (k ∷ ks) = eqb b (blockOf k .bytes) && allTake b ks
+
+pub in-arm : (b : ℕ) (ks : List ℕ) → T (allTake b ks) → (x : ℕ) → OneOf ks x → b ≡ blockOf x .bytes
+in-arm b [] t x e = absurd e
+in-arm b (k ∷ []) t x e = rw e (eqb→eq b (blockOf k .bytes) (and-yes (eqb b (blockOf k .bytes)) true t .0))
+in-arm b (k ∷ next ∷ ks) t x e =
+    let both = and-yes (eqb b (blockOf k .bytes)) (allTake b (next ∷ ks)) t in
+    elim e [
+      | inl h ↦ rw h (eqb→eq b (blockOf k .bytes) (both .0))
+      | inr h ↦ in-arm b (next ∷ ks) (both .1) x h
+    ]
+
 -- whether x is a key of a match's arms
 abbrev keyed : List (List ℕ) → ℕ → Bool
 keyed [] x = false
@@ -53,31 +77,23 @@ not-keyed (ks ∷ arms) N x l t =
       | inr h ↦ not-keyed arms (N × (OneOf ks x → ⊥)) x l h
     ]
 
--- a block is its two numbers
-block-is : {n b : ℕ} (a : Block) → n ≡ a .numbers → b ≡ a .bytes → block n b ≡ a
-block-is a e f = rw (e, f)
-
--- where each kind of the table is a key, what is left over is no kind
+-- where each kind of the table whose block takes bytes is a key, the block of what is left over takes none
 module _ (arms : List (List ℕ)) where
-  abbrev none : ℕ → Bool
-  none k = eqb 0 (blockOf k .numbers) && eqb 0 (blockOf k .bytes)
-
   abbrev covered : ℕ → Bool
-  covered k = keyed arms k || none k
+  covered k = keyed arms k || eqb 0 (blockOf k .bytes)
 
-  covered-by : (k : ℕ) → Left (Unit {0}) arms k → T (covered k) → noKind ≡ blockOf k
+  covered-by : (k : ℕ) → Left (Unit {0}) arms k → T (covered k) → 0 ≡ blockOf k .bytes
   covered-by k l t =
-      elim (or-yes (keyed arms k) (none k) t) [
+      elim (or-yes (keyed arms k) (eqb 0 (blockOf k .bytes)) t) [
         | inl h ↦ absurd (not-keyed arms (Unit {0}) k l h)
-        | inr h ↦ let e = and-yes (eqb 0 (blockOf k .numbers)) (eqb 0 (blockOf k .bytes)) h in
-            block-is (blockOf k) (eqb→eq 0 (blockOf k .numbers) (e .0)) (eqb→eq 0 (blockOf k .bytes) (e .1))
+        | inr h ↦ eqb→eq 0 (blockOf k .bytes) h
       ]
 
-  left-over-by : (t : Bool) (k : ℕ) → ltb k (length kindTable) ≡ t → T (every covered (length kindTable)) → Left (Unit {0}) arms k → noKind ≡ blockOf k
+  left-over-by : (t : Bool) (k : ℕ) → ltb k (length kindTable) ≡ t → T (every covered (length kindTable)) → Left (Unit {0}) arms k → 0 ≡ blockOf k .bytes
   left-over-by true k i c l = covered-by k l (at covered (length kindTable) c k (ltb-true k (length kindTable) i))
-  left-over-by false k i c l = past k (ltb-false k (length kindTable) i)
+  left-over-by false k i c l = ap (λ b. b .bytes) (past k (ltb-false k (length kindTable) i))
 
-  pub left-over : T (every covered (length kindTable)) → (k : ℕ) → Left (Unit {0}) arms k → noKind ≡ blockOf k
+  pub left-over : T (every covered (length kindTable)) → (k : ℕ) → Left (Unit {0}) arms k → 0 ≡ blockOf k .bytes
   left-over c k l = left-over-by (ltb k (length kindTable)) k refl c l
 
 -- a kind that is written is known: row after row, and past the table none is written

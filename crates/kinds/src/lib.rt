@@ -1,11 +1,12 @@
 // The kinds of tensor data, and the size of a tensor.
-ghost use Prim.Native.Nat.{_*_, _/_, _<_, _≤_};
-ghost use lib.Dec.{leb};
 ghost use mathlib.Core.Path.{_≡_};
-ghost use Rattle.kinds.specs.Shape.{greatest, measureOf, wholeOf};
-ghost use Rattle.kinds.specs.Table.{block, blockOf, knownKind, writtenKind};
-ghost use Rattle.kinds.specs.declared.Whole.the-variants.{Fits, Over};
+ghost use mathlib.Core.Bool.{true};
+ghost use Prim.Native.Nat.{_*_, _/_, _≤_, _<_};
+ghost use lib.Dec.{leb};
 ghost use Rattle.reading.specs.Choice.{if_then_else_};
+ghost use Rattle.kinds.specs.Table.{block, blockOf, knownKind, writtenKind};
+ghost use Rattle.kinds.specs.Shape.{greatest, productOf, productsFit, wholeOf, measureOf};
+ghost use Rattle.kinds.specs.declared.Whole.the-variants.{Fits, Over};
 
 // How many numbers a block of a kind holds, and how many bytes it takes. A block of no numbers: there is no such kind.
 pub struct Block {
@@ -28,50 +29,62 @@ pub enum Measure {
 // The greatest number of 64 bits.
 const GREATEST: u64 = 18446744073709551615;
 
-// A row of the table.
-fn row(numbers: u64, bytes: u64) -> Block
-    ensures { λ r. ⌜ r ≡ block numbers bytes ⌝ }
+// How many numbers a block of a kind holds: none where a number names no kind.
+fn block_size(kind: u64) -> u64
+    ensures { λ r. ⌜ r ≡ blockOf kind .numbers ⌝ }
 {
-    Block { numbers, bytes }
+    match kind {
+        0..=1 => 1,
+        2..=3 | 6..=9 => 32,
+        4..=5 => 0,
+        10..=39 => 256,
+        _ => 0,
+    }
 }
 
-// The block of a kind. Single numbers make the match one look into a table; neighbours in one arm would be a range, which is compared.
+// How many bytes a block of a kind takes: none where a kind is never written, and where a number names no kind. Single numbers make
+// the match one look into a table.
+fn type_size(kind: u64) -> u64
+    ensures { λ r. ⌜ r ≡ blockOf kind .bytes ⌝ }
+{
+    match kind {
+        0 | 26 => 4,
+        1 | 25 | 30 => 2,
+        2 | 20 => 18,
+        3 => 20,
+        6 => 22,
+        7 => 24,
+        8 => 34,
+        9 => 40,
+        10 => 84,
+        11 | 21 => 110,
+        12 => 144,
+        13 => 176,
+        14 => 210,
+        15 => 292,
+        16 | 35 => 66,
+        17 => 74,
+        18 => 98,
+        19 => 50,
+        22 => 82,
+        23 => 136,
+        24 => 1,
+        27 => 8,
+        28 => 8,
+        29 => 56,
+        34 => 54,
+        39 => 273,
+        _ => 0,
+    }
+}
+
+// The block of a kind.
 pub fn block_and_type_size(kind: u64) -> Block
     ensures { λ r. ⌜ r ≡ blockOf kind ⌝ }
 {
-    match kind {
-        0 => row(1, 4),
-        1 => row(1, 2),
-        2 => row(32, 18),
-        3 => row(32, 20),
-        6 => row(32, 22),
-        7 => row(32, 24),
-        8 => row(32, 34),
-        9 => row(32, 40),
-        10 => row(256, 84),
-        11 | 21 => row(256, 110),
-        12 => row(256, 144),
-        13 => row(256, 176),
-        14 => row(256, 210),
-        15 => row(256, 292),
-        16 | 35 => row(256, 66),
-        17 => row(256, 74),
-        18 => row(256, 98),
-        19 => row(256, 50),
-        20 => row(256, 18),
-        22 => row(256, 82),
-        23 => row(256, 136),
-        24 => row(256, 1),
-        25 | 30 => row(256, 2),
-        26 => row(256, 4),
-        27 => row(256, 8),
-        28 => row(256, 8),
-        29 => row(256, 56),
-        31 | 33 | 36 | 38 => row(256, 0),
-        32 | 37 => row(256, 0),
-        34 => row(256, 54),
-        39 => row(256, 273),
-        _ => row(0, 0),
+    Block {
+        bytes: type_size(kind),
+        numbers: block_size(kind),
     }
 }
 
@@ -79,14 +92,14 @@ pub fn block_and_type_size(kind: u64) -> Block
 pub fn is_known(kind: u64) -> bool
     ensures { λ r. ⌜ r ≡ knownKind kind ⌝ }
 {
-    0 < block_and_type_size(kind).numbers
+    0 < block_size(kind)
 }
 
 // Whether a kind is written.
 pub fn is_written(kind: u64) -> bool
     ensures { λ r. ⌜ r ≡ writtenKind kind ⌝ }
 {
-    0 < block_and_type_size(kind).bytes
+    0 < type_size(kind)
 }
 
 // The product of two numbers, where it fits. It is made where one factor is 0 or 1, or after a division has shown that it fits.
@@ -115,6 +128,14 @@ pub fn product(shape: [u64; 4]) -> Whole
     times(solid, shape[3])
 }
 
+// The product of a shape's lengths, for callers that know that each product on the way fits.
+pub fn known_product(shape: [u64; 4]) -> u64
+    requires { ⌜ productsFit shape ≡ true ⌝ }
+    ensures { λ r. ⌜ r ≡ productOf shape ⌝ }
+{
+    shape[0] * shape[1] * shape[2] * shape[3]
+}
+
 // Whether the bytes of so many numbers of a kind fit 64 bits. No block takes 512 bytes, so of fewer than 2 ^ 55 numbers they do.
 pub fn fits(numbers: u64, kind: u64) -> bool
     ensures { λ r. ⌜ r ≡ leb (numbers * blockOf kind .bytes) greatest ⌝ }
@@ -122,17 +143,20 @@ pub fn fits(numbers: u64, kind: u64) -> bool
     if numbers < 36028797018963968 {
         return true;
     }
-    match times(block_and_type_size(kind).bytes, numbers) {
+    match times(type_size(kind), numbers) {
         Whole::Fits { value: _ } => true,
         Whole::Over => false,
     }
 }
 
-// The bytes of so many numbers in such blocks, rounded down: for callers that know that they fit.
+// The bytes of so many numbers in such blocks, rounded down, and 0 in blocks of no numbers: for callers that know that they fit.
 pub fn bytes_in(numbers: u64, block: Block) -> u64
-    requires { ⌜ (numbers * block .bytes ≤ greatest) × (0 < block .numbers) ⌝ }
+    requires { ⌜ numbers * block .bytes ≤ greatest ⌝ }
     ensures { λ r. ⌜ r ≡ numbers * block .bytes / block .numbers ⌝ }
 {
+    if block.numbers == 0 {
+        return 0;
+    }
     numbers * block.bytes / block.numbers
 }
 

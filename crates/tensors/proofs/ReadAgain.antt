@@ -168,37 +168,6 @@ rest-there s p big all count =
     let h = sure-rest s p big .holds (r .0) (r .1) (r .2) in
     subst (RestThere s p big) (sym count) (record { few = h .few; inside = h .inside; is = sym (h .is) ∙ r .2 })
 
--- What fits.
-
--- one product, and those that follow it
-fit-cases : (x n : ℕ) (l : List ℕ) (b : Bool) → leb (x * n) greatest ≡ b → (if b then productsFitFrom (x * n) l else false) ≡ true → (x * n ≤ greatest) × (productsFitFrom (x * n) l ≡ true)
-fit-cases x n l true e h = (leb-true _ _ e, h)
-fit-cases x n l false e h = let z : _≡_ {A = ℕ} 0 1 = cc in absurd (omega arith)
-
-fit-one : (x n : ℕ) (l : List ℕ) → productsFitFrom x (n ∷ l) ≡ true → (x * n ≤ greatest) × (productsFitFrom (x * n) l ≡ true)
-fit-one x n l h = fit-cases x n l (leb (x * n) greatest) refl h
-
--- the products of a shape one after the other, and the bytes of a kind's blocks
-module _ (x : Shape) (k : ℕ) where
-  pub record Products : Type 0 where
-    pub plane : x .first * x .second ≤ greatest
-    pub solid : x .first * x .second * x .third ≤ greatest
-    pub whole : x .first * x .second * x .third * x .fourth ≤ greatest
-    pub bytes : x .first * x .second * x .third * x .fourth * blockOf k .bytes ≤ greatest
-
-  pub products : productsFit (lengths x) ≡ true → sizeFits (lengths x) k ≡ true → Products
-  products h g =
-      let a = fit-one 1 (x .first) (x .second ∷ x .third ∷ x .fourth ∷ []) h in
-      let b = fit-one (1 * x .first) (x .second) (x .third ∷ x .fourth ∷ []) (a .1) in
-      let c = fit-one (1 * x .first * x .second) (x .third) (x .fourth ∷ []) (b .1) in
-      let d = fit-one (1 * x .first * x .second * x .third) (x .fourth) [] (c .1) in
-      let e : 1 * x .first ≡ x .first = one-mul (x .first) in
-      record { plane = rw e at (b .0); solid = rw e at (c .0); whole = rw e at (d .0); bytes = rw e at (leb-true (bytesBefore (lengths x) k) greatest g) }
-
-  -- the size, as it is made of the lengths and the block
-  pub size-is : {b : Block} → b ≡ blockOf k → x .first * x .second * x .third * x .fourth * b .bytes / b .numbers ≡ sizeOf (lengths x) k
-  size-is e = rw (e, one-mul)
-
 -- Tensors.
 
 -- neither the shape nor the kind and the offset look at the version

@@ -301,7 +301,7 @@ pub fn row_again(name: Span, again: Again) -> [u64; 10]
     ensures { λ r. ⌜ r ≡ tensorRow (tensorOf name again) ⌝ }
 {
     let x = again.shape;
-    let parameters = x.first * x.second * x.third * x.fourth;
+    let parameters = kinds::known_product([x.first, x.second, x.third, x.fourth]);
     let block = kinds::block_and_type_size(again.kind);
     tensor_row(Tensor {
         name,

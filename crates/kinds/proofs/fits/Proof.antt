@@ -16,12 +16,12 @@ returns c = sym (le-leb _ _ (few-fit (c .before .args .numbers) (blockOf (c .bef
 returns-2 : tie.Need-returns-2
 returns-2 c =
     let b = c .before .before .before in
-    many-fit _ _ (b .block-and-type-size .ensures) (sym (c .enum-told .given .1) ∙ c .before .before .times .ensures)
+    many-fit _ _ (b .type-size .ensures) (sym (c .enum-told .given .1) ∙ c .before .before .times .ensures)
 
 returns-3 : tie.Need-returns-3
 returns-3 c =
     let b = c .before .before .before in
-    many-not _ _ (b .block-and-type-size .ensures) (sym (c .enum-told2 .given .1) ∙ c .before .before .times .ensures)
+    many-not _ _ (b .type-size .ensures) (sym (c .enum-told2 .given .1) ∙ c .before .before .times .ensures)
 
 pub fits-spec : {M : Type 1} → statement M
 fits-spec =

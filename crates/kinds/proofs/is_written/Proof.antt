@@ -1,4 +1,4 @@
--- `kinds::is_written` meets its contract: a kind is written where the block that is looked up has bytes.
+-- `kinds::is_written` meets its contract: a kind is written where the block takes bytes.
 -- Assumes nothing.
 use borrow.Author.Needs.{needs}
 use mathlib.Core.Path.{ap}
@@ -6,8 +6,5 @@ use lib.Dec.{ltb}
 use Rattle.kinds.proofs.is_written.Statement.{statement}
 use Rattle.kinds.proofs.is_written.Tie as tie
 
-returns : tie.Need-returns
-returns c = ap (λ b. ltb 0 (b .bytes)) (c .before .block-and-type-size .ensures)
-
 pub is-written-spec : {M : Type 1} → statement M
-is-written-spec = tie.close (tie.spec (λ c κs. search needs) returns)
+is-written-spec = tie.close (tie.spec (λ c κs. search needs) (λ c. ap (ltb 0) (c .type-size .ensures)))

@@ -2,7 +2,6 @@
 -- Assumes nothing.
 use borrow.Author.Needs.{needs}
 use mathlib.Core.Path.{sym, _∙_}
-use native.Mathlib.Omega.{arith}
 use Rattle.kinds.proofs.Measures.{Passed, no-kind, no-product, no-size, bytes-fit, sized}
 use Rattle.kinds.proofs.size.Statement.{statement}
 use Rattle.kinds.proofs.size.Tie as tie
@@ -33,8 +32,7 @@ returns-2 c =
 
 bytes-in-requires : tie.Need-bytes-in-requires
 bytes-in-requires c κs =
-    let p = passed (c .before .before .before) in
-    (bytes-fit p (sym (c .if2 .taken) ∙ c .before .fits2 .ensures), omega (arith, p .some))
+    bytes-fit (passed (c .before .before .before)) (sym (c .if2 .taken) ∙ c .before .fits2 .ensures)
 
 returns-3 : tie.Need-returns-3
 returns-3 c =

@@ -1,7 +1,7 @@
 -- `records::fitted` meets its contract: the three tests in the order of the definition.
 -- Assumes nothing.
 use borrow.Author.Needs.{needs}
-use borrow.Author.Tests.{not-true, not-false, leb-true, ltb-true}
+use borrow.Author.Tests.{not-true, not-false, leb-true}
 use Prim.Native.Nat.{_*_}
 use mathlib.Core.Path.{_≡_, sym, _∙_}
 use mathlib.Core.Bool.{true}
@@ -44,9 +44,7 @@ returns-3 c =
 
 bytes-in-requires : tie.Need-bytes-in-requires
 bytes-in-requires c κs =
-    let e = c .before .before in
-    let a = e .before .before .before .before .before .before .args in
-    (rw (c .block-and-type-size .ensures) (leb-true _ _ (sym (bytes e))), rw (c .block-and-type-size .ensures) (ltb-true _ _ (e .before .before .before .before .before .before .pre)))
+    rw (c .block-and-type-size .ensures) (leb-true _ _ (sym (bytes (c .before .before))))
 
 returns-4 : tie.Need-returns-4
 returns-4 c =
