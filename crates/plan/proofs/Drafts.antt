@@ -28,7 +28,8 @@ use Rattle.plan.specs.declared.Draft.{Draft}
 use Rattle.plan.specs.declared.Room.the-variants.{Left, Over}
 use Rattle.plan.specs.declared.Planned.the-variants.{Fine, Refused}
 use Rattle.plan.specs.Header.{saidIn, adds, alignmentEntry, inserted, enteredIn, entriesWith, entriesOf, weightsFrom, sheetFor, endOf, startOf, recordsIn}
-use Rattle.plan.specs.Plan.{draftWith, draftOf, roomed, takenFrom}
+use Rattle.plan.specs.Plan.{draftWith, draftOf}
+use Rattle.plan.specs.Steps.{roomed, takenFrom}
 use Rattle.plan.proofs.Rooms.{taken-thrice}
 use Rattle.plan.proofs.Sizes.{one-length, entry-length, header-length, rows-none, rows-more}
 

@@ -8,7 +8,7 @@ use borrow.Author.Tests.{le-leb, lt-leb, leb-true, leb-false}
 use Rattle.reading.specs.Choice.{if_then_else_}
 use Rattle.plan.specs.declared.Room.{Room}
 use Rattle.plan.specs.declared.Room.the-variants.{Left, Over}
-use Rattle.plan.specs.Plan.{takenFrom}
+use Rattle.plan.specs.Steps.{takenFrom}
 
 -- what fits is left, and what does not leaves nothing
 pub taken-fits : {r n : ℕ} → n ≤ r → takenFrom (Left r) n ≡ Left (r - n)

@@ -12,14 +12,14 @@ use Rattle.layout.specs.Layout.{layoutOf}
 use Rattle.values.specs.declared.Dialect.{Dialect}
 use Rattle.sheet.specs.declared.Checked.the-variants.{Whole, Bad}
 use Rattle.sheet.specs.Sheet.{Records, sheetOf, checkedOf}
-use Rattle.sheet.proofs.Refusals.{sheet-only}
 use Rattle.plan.specs.declared.Draft.{Draft}
 use Rattle.plan.specs.declared.SaidAlignment.the-variants.{By, Absent}
 use Rattle.plan.specs.declared.LaidOut.the-variants.{Fits, Refused as NotLaid}
 use Rattle.plan.specs.declared.Planned.{Planned}
 use Rattle.plan.specs.declared.Planned.the-variants.{Refused}
 use Rattle.plan.specs.Header.{saidIn, adds, entriesOf, pieceOf, recordsIn}
-use Rattle.plan.specs.Plan.{isAlignment, canAdd, agrees, laidOf, requireLaid, require, countsFit, draftWith, draftOf, roomed, laid, aligned, formed, planFor}
+use Rattle.plan.specs.Plan.{requireFormed, isAlignment, canAdd, agrees, laidOf, requireLaid, require, countsFit, draftWith, draftOf, planFor}
+use Rattle.plan.specs.Steps.{roomed, laid, aligned}
 use Rattle.plan.proofs.Drafts.{entries-count}
 
 -- The version, and whether the sheet is well formed.
@@ -35,21 +35,18 @@ module _ (k : Dialect) (a room : ℕ) (s : List ℕ) where
     version-above h = rw (ne-eqb (k .version) 0 some, lt-leb (k .version) 3 h)
 
     module _ (known : k .version ≤ 3) where
-      by-sheet : formed k a room (sheetOf s) ≡ planFor k a room s
+      by-sheet : requireFormed (sheetOf s) 31 (aligned k a room) ≡ planFor k a room s
       unfolding planFor
       by-sheet = rw (ne-eqb (k .version) 0 some, le-leb (k .version) 3 known)
 
-      bad-cases : (r : Answer Records) {p : ℕ} → r ≡ sheetOf s → Bad p ≡ checkedOf r → Refused 31 p ≡ formed k a room r
-      bad-cases (accepted c e) h i = let z : _≡_ {A = ℕ} 0 1 = cc in absurd (omega arith)
-      bad-cases (refused n o) {p} h i =
-          let j : n ≡ 31 = sheet-only s h in
-          let l : p ≡ o = cc in
-          rw (j, l)
+      bad-cases : (r : Answer Records) {p : ℕ} → Bad p ≡ checkedOf r → Refused 31 p ≡ requireFormed r 31 (aligned k a room)
+      bad-cases (accepted c e) i = let z : _≡_ {A = ℕ} 0 1 = cc in absurd (omega arith)
+      bad-cases (refused n o) {p} i = let l : p ≡ o = cc in rw l
 
       pub not-formed : {p : ℕ} → Bad p ≡ checkedOf (sheetOf s) → Refused 31 p ≡ planFor k a room s
-      not-formed e = bad-cases (sheetOf s) refl e ∙ by-sheet
+      not-formed e = bad-cases (sheetOf s) e ∙ by-sheet
 
-      formed-cases : (r : Answer Records) → isAccepted r ≡ true → aligned k a room (recordsIn r) ≡ formed k a room r
+      formed-cases : (r : Answer Records) → isAccepted r ≡ true → aligned k a room (recordsIn r) ≡ requireFormed r 31 (aligned k a room)
       formed-cases (accepted c e) h = refl
       formed-cases (refused n o) h = let z : _≡_ {A = ℕ} 0 1 = cc in absurd (omega arith)
 
@@ -68,8 +65,8 @@ counted (refused o p) h = let z : _≡_ {A = ℕ} 0 1 = cc in absurd (omega arit
 -- The alignment.
 
 -- a test that holds lets what follows it through
-tested : (t : Bool) (w p : ℕ) (rest : Planned) → t ≡ true → rest ≡ require t w p rest
-tested t w p rest e = rw e
+tested : (t : Bool) (refusal rest : Planned) → t ≡ true → rest ≡ require t refusal rest
+tested t refusal rest e = rw e
 
 module _ (k : Dialect) (a room : ℕ) (c : Records) where
   pub aligned-none : a ≡ 0 → Refused 32 0 ≡ aligned k a room c
@@ -82,9 +79,9 @@ module _ (k : Dialect) (a room : ℕ) (c : Records) where
     module _ (eighth : a % 8 ≡ 0) where
       agreed : canAdd a (saidIn (c .entries)) ≡ true → agrees a (saidIn (c .entries)) ≡ true → laid k a room c ≡ aligned k a room c
       agreed f g =
-          tested (agrees a (saidIn (c .entries))) 34 0 (laid k a room c) g
-          ∙ tested (canAdd a (saidIn (c .entries))) 33 0 (require (agrees a (saidIn (c .entries))) 34 0 (laid k a room c)) f
-          ∙ tested (isAlignment a) 32 0 (require (canAdd a (saidIn (c .entries))) 33 0 (require (agrees a (saidIn (c .entries))) 34 0 (laid k a room c))) (rw (ne-eqb a 0 some, eq-eqb (a % 8) 0 eighth))
+          tested (agrees a (saidIn (c .entries))) (Refused 34 0) (laid k a room c) g
+          ∙ tested (canAdd a (saidIn (c .entries))) (Refused 33 0) (require (agrees a (saidIn (c .entries))) (Refused 34 0) (laid k a room c)) f
+          ∙ tested (isAlignment a) (Refused 32 0) (require (canAdd a (saidIn (c .entries))) (Refused 33 0) (require (agrees a (saidIn (c .entries))) (Refused 34 0) (laid k a room c))) (rw (ne-eqb a 0 some, eq-eqb (a % 8) 0 eighth))
 
       module _ {x : ℕ} (said : By x ≡ saidIn (c .entries)) where
         pub other-said : (x ≡ a → ⊥) → Refused 34 0 ≡ aligned k a room c
@@ -119,11 +116,11 @@ module _ (k : Dialect) (a room : ℕ) (c : Records) where
   -- The tensors and the counts.
 
   pub not-laid : {w i : ℕ} → NotLaid w i ≡ laidOf (layoutOf a (map pieceOf (c .tensors))) → Refused w i ≡ laid k a room c
-  not-laid e = ap (λ y. requireLaid y (require (countsFit k (length (entriesOf a (c .entries))) (length (c .tensors))) 37 0 (roomed k a room c))) e
+  not-laid e = ap (λ y. requireLaid y (require (countsFit k (length (entriesOf a (c .entries))) (length (c .tensors))) (Refused 37 0) (roomed k a room c))) e
 
   module _ (fits : Fits ≡ laidOf (layoutOf a (map pieceOf (c .tensors)))) where
-    all-laid : require (countsFit k (length (entriesOf a (c .entries))) (length (c .tensors))) 37 0 (roomed k a room c) ≡ laid k a room c
-    all-laid = ap (λ y. requireLaid y (require (countsFit k (length (entriesOf a (c .entries))) (length (c .tensors))) 37 0 (roomed k a room c))) fits
+    all-laid : require (countsFit k (length (entriesOf a (c .entries))) (length (c .tensors))) (Refused 37 0) (roomed k a room c) ≡ laid k a room c
+    all-laid = ap (λ y. requireLaid y (require (countsFit k (length (entriesOf a (c .entries))) (length (c .tensors))) (Refused 37 0) (roomed k a room c))) fits
 
     counts-told : {d : Draft} → d ≡ draftOf a c → countsFit k (d .entries + (if d .adds then 1 else 0)) (d .tensors) ≡ countsFit k (length (entriesOf a (c .entries))) (length (c .tensors))
     counts-told e =
@@ -131,7 +128,7 @@ module _ (k : Dialect) (a room : ℕ) (c : Records) where
 
     module _ {d : Draft} (told : d ≡ draftOf a c) where
       pub too-many : countsFit k (d .entries + (if d .adds then 1 else 0)) (d .tensors) ≡ false → Refused 37 0 ≡ laid k a room c
-      too-many h = ap (λ t. require t 37 0 (roomed k a room c)) (sym h ∙ counts-told told) ∙ all-laid
+      too-many h = ap (λ t. require t (Refused 37 0) (roomed k a room c)) (sym h ∙ counts-told told) ∙ all-laid
 
       pub few-enough : countsFit k (d .entries + (if d .adds then 1 else 0)) (d .tensors) ≡ true → roomed k a room c ≡ laid k a room c
-      few-enough h = ap (λ t. require t 37 0 (roomed k a room c)) (sym h ∙ counts-told told) ∙ all-laid
+      few-enough h = ap (λ t. require t (Refused 37 0) (roomed k a room c)) (sym h ∙ counts-told told) ∙ all-laid

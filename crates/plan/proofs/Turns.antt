@@ -27,11 +27,11 @@ use Rattle.values.proofs.Texts.{bytes-length}
 use Rattle.header.specs.Contents.{alignmentSaid}
 use Rattle.sheet.specs.declared.EntryParts.{EntryParts}
 use Rattle.sheet.specs.declared.TensorParts.{TensorParts}
-use Rattle.sheet.specs.declared.EntryFound.the-variants.{Found as FoundEntry, Bad as NoEntry}
+use Rattle.sheet.specs.declared.EntryFound.the-variants.{Found as FoundEntry}
 use Rattle.sheet.specs.declared.TensorFound.the-variants.{Found as FoundTensor, Bad as NoTensor}
 use Rattle.sheet.specs.Format.{value, Line, metadata, shape, Drawn, drawn, tensor}
 use Rattle.sheet.specs.Sheet.{entryOf, tensorOf}
-use Rattle.sheet.proofs.Steps.{entry-no, entry-yes, tensor-no, tensor-yes}
+use Rattle.sheet.proofs.Steps.{entry-yes, tensor-no, tensor-yes, next-there}
 use Rattle.sheet.proofs.Parts.{entry-told, tensor-told, sure-framed}
 use Rattle.sheet.proofs.Many.{key-stands}
 use Rattle.plan.specs.declared.Room.{Room}
@@ -39,7 +39,8 @@ use Rattle.plan.specs.declared.SaidAlignment.{SaidAlignment}
 use Rattle.plan.specs.declared.SaidAlignment.the-variants.{By}
 use Rattle.plan.specs.declared.LaidOut.the-variants.{Fits, Refused as NotLaid}
 use Rattle.plan.specs.Header.{saidWith, enteredIn, pieceOf, weightAt, laidWith, weightsFrom, heard}
-use Rattle.plan.specs.Plan.{takenFrom, laidOf}
+use Rattle.plan.specs.Plan.{laidOf}
+use Rattle.plan.specs.Steps.{takenFrom}
 use Rattle.plan.proofs.Rooms.{taken-none, taken-twice}
 use Rattle.plan.proofs.Sizes.{entry-length, stored-length, tensor-eights, rows-none, rows-more}
 use Rattle.plan.proofs.Measures.{heard-one}
@@ -57,8 +58,8 @@ abbrev pub tensorsLength : Dialect → ℕ → List ℕ → ℕ → ℕ
 tensorsLength k n s p = length (rows (tensorBytes k) (weightsFrom 0 nothingLaid (got (run (times n tensor) s p))))
 
 module _ (s : List ℕ) (at n i : ℕ) (below : i < n) (all : isAccepted (run (times (n - i) metadata) s at) ≡ true) where
-  pub entry-never : NoEntry ≡ entryOf (run metadata s at) → ⊥
-  entry-never e = times-never metadata s at n i below (entry-no (run metadata s at) e .is) all
+  pub entry-here : isAccepted (run metadata s at) ≡ true
+  entry-here = next-there metadata s at n i below all
 
   module _ {x : EntryParts} {q : ℕ} (found : FoundEntry x q ≡ entryOf (run metadata s at)) where
     abbrev pub line : Line

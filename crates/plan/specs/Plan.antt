@@ -7,7 +7,7 @@
 --   35, 13, 14, 15, 36  a tensor that can't be laid, with its number
 --   37  in version 1, a count above 2 ^ 32 - 1
 --   38  an output that is shorter than the start of the data
-use Prim.Native.Nat.{ℕ, _%_, _-_, max}
+use Prim.Native.Nat.{ℕ, _%_, max}
 use mathlib.Core.Bool.{Bool, true, false}
 use mathlib.Core.List.{List, map}
 use lib.Dec.{leb, eqb}
@@ -26,13 +26,17 @@ use Rattle.plan.specs.declared.Planned.{Planned}
 use Rattle.plan.specs.declared.Planned.the-variants.{Fine, Refused}
 use Rattle.plan.specs.declared.LaidOut.{LaidOut}
 use Rattle.plan.specs.declared.LaidOut.the-variants.{Fits, Refused as NotLaid}
-use Rattle.plan.specs.declared.Room.{Room}
-use Rattle.plan.specs.declared.Room.the-variants.{Left, Over}
 use Rattle.plan.specs.Header.{saidIn, adds, entriesOf, pieceOf, endOf, startOf}
 
--- the refusal where a test fails
-abbrev pub require : Bool → ℕ → ℕ → Planned → Planned
-require test why place rest = if test then rest else Refused why place
+-- what follows a test where it holds, and else the refusal
+abbrev pub require : {A : Type 0} → Bool → A → A → A
+require test refusal rest = if test then rest else refusal
+
+-- what follows of the records of a sheet that is well formed, and else the refusal, at its first
+-- bad entry
+abbrev pub requireFormed : Answer Records → ℕ → (Records → Planned) → Planned
+requireFormed (accepted c e) why rest = rest c
+requireFormed (refused n p) why rest = Refused why p
 
 -- above 0, and a multiple of 8
 abbrev pub isAlignment : ℕ → Bool
@@ -52,6 +56,7 @@ abbrev pub laidOf : Layout → LaidOut
 laidOf (laidOut offsets laid) = Fits
 laidOf (refusedAt why i) = NotLaid why i
 
+-- what follows where all are laid, and else the refusal, with the tensor's number
 abbrev pub requireLaid : LaidOut → Planned → Planned
 requireLaid Fits rest = rest
 requireLaid (NotLaid why i) rest = Refused why i
@@ -71,34 +76,16 @@ draftOf a c = draftWith (adds a (saidIn (c .entries))) c
 abbrev pub planOf : Dialect → ℕ → Records → Plan
 planOf k a c = record { draft = draftOf a c; end = endOf k a c; start = startOf k a c }
 
--- the test of the room
-abbrev pub roomed : Dialect → ℕ → ℕ → Records → Planned
-roomed k a room c = require (leb (startOf k a c) room) 38 0 (Fine (planOf k a c))
-
--- the tests of the tensors and of the counts, before it
-abbrev pub laid : Dialect → ℕ → ℕ → Records → Planned
-laid k a room c =
-    requireLaid (laidOf (layoutOf a (map pieceOf (c .tensors))))
-    (require (countsFit k (length (entriesOf a (c .entries))) (length (c .tensors))) 37 0 (roomed k a room c))
-
--- the tests of the alignment, before those
-abbrev pub aligned : Dialect → ℕ → ℕ → Records → Planned
-aligned k a room c =
-    require (isAlignment a) 32 0
-    (require (canAdd a (saidIn (c .entries))) 33 0
-    (require (agrees a (saidIn (c .entries))) 34 0
-    (laid k a room c)))
-
--- that the sheet is well formed, before those
-abbrev pub formed : Dialect → ℕ → ℕ → Answer Records → Planned
-formed k a room (refused n p) = Refused n p
-formed k a room (accepted c e) = aligned k a room c
-
--- all tests of a writer, in their order: for a version and byte order, an alignment, the room of the output, and a sheet
+-- all tests of a writer, in their order: for a version and byte order, an alignment, the room of
+-- the output, and a sheet. A tensor that can't be laid is refused as 35, 13, 14, 15 or 36
 unfoldable pub planFor : Dialect → ℕ → ℕ → List ℕ → Planned
-planFor k a room s = require (knownVersion (k .version)) 30 0 (formed k a room (sheetOf s))
-
--- what is left of a room when n bytes are taken from it
-unfoldable pub takenFrom : Room → ℕ → Room
-takenFrom (Left room) n = if leb n room then Left (room - n) else Over
-takenFrom Over n = Over
+planFor k a room s =
+    require (knownVersion (k .version)) (Refused 30 0)
+    (requireFormed (sheetOf s) 31 (λ c.
+    require (isAlignment a) (Refused 32 0)
+    (require (canAdd a (saidIn (c .entries))) (Refused 33 0)
+    (require (agrees a (saidIn (c .entries))) (Refused 34 0)
+    (requireLaid (laidOf (layoutOf a (map pieceOf (c .tensors))))
+    (require (countsFit k (length (entriesOf a (c .entries))) (length (c .tensors))) (Refused 37 0)
+    (require (leb (startOf k a c) room) (Refused 38 0)
+    (Fine (planOf k a c)))))))))

@@ -8,7 +8,6 @@ use values::Dialect;
 use scalars::ScalarWidth;
 use values::Value;
 use sheet::Checked;
-use sheet::EntryFound;
 use sheet::EntryParts;
 use sheet::TensorFound;
 use sheet::TensorParts;
@@ -34,6 +33,7 @@ ghost use Rattle.layout.specs.declared.Laid.{Laid};
 ghost use Rattle.plan.specs.declared.Room.the-variants.{Left};
 ghost use Rattle.plan.specs.Header as header_of;
 ghost use Rattle.plan.specs.Plan as plan_of;
+ghost use Rattle.plan.specs.Steps as steps;
 
 // The alignment that a sheet says itself, if it does.
 pub enum SaidAlignment {
@@ -108,20 +108,15 @@ fn said_alignment(s: &[u8], n: usize) -> SaidAlignment
     let mut said = SaidAlignment::Absent;
     let mut i: usize = 0;
     while i < n {
-        match sheet::entry_at(s, from) {
-            EntryFound::Bad => {
-                return said;
-            }
-            EntryFound::Found { parts, next } => {
-                let key = parts.key;
-                if is_alignment(values::inside(s, key)) {
-                    said = SaidAlignment::By {
-                        alignment: value_alignment(s, parts.value, next, parts.form),
-                    };
-                }
-                from = next;
-            }
+        let entry = sheet::entry_again(s, from);
+        let parts = entry.parts;
+        let key = parts.key;
+        if is_alignment(values::inside(s, key)) {
+            said = SaidAlignment::By {
+                alignment: value_alignment(s, parts.value, entry.next, parts.form),
+            };
         }
+        from = entry.next;
         i += 1;
     }
     said
@@ -181,7 +176,7 @@ fn size_width(dialect: Dialect) -> usize
 
 // The room without n bytes.
 fn take_from(room: Room, n: usize) -> Room
-    ensures { λ r. ⌜ r ≡ plan_of.takenFrom room n ⌝ }
+    ensures { λ r. ⌜ r ≡ steps.takenFrom room n ⌝ }
 {
     match room {
         Room::Over => Room::Over,
@@ -198,7 +193,7 @@ fn take_from(room: Room, n: usize) -> Room
 // The room without an array, as it will stand in the header: items keep their bytes there, but for the sizes of texts.
 fn array_room(room: Room, s: &[u8], at: usize, end: usize, dialect: Dialect) -> Room
     requires { ⌜ To end ≡ stepOf (run (format.array depth (format.item depth)) (now s) at) ⌝ }
-    ensures { λ r. ⌜ r ≡ plan_of.takenFrom room (length (saidBytes (suc depth) dialect (header_of.heard (run (format.array depth (format.item depth)) (now (s .entry)) at)))) ⌝ }
+    ensures { λ r. ⌜ r ≡ steps.takenFrom room (length (saidBytes (suc depth) dialect (header_of.heard (run (format.array depth (format.item depth)) (now (s .entry)) at)))) ⌝ }
 {
     let Number::Value { value: t, next: p } = fields::number_at(s, at, Width::One, true) else {
         return room;
@@ -219,7 +214,7 @@ fn array_room(room: Room, s: &[u8], at: usize, end: usize, dialect: Dialect) -> 
 // The room without a value, which is of the type form and ends at end.
 fn value_room(room: Room, s: &[u8], at: usize, end: usize, form: u64, dialect: Dialect) -> Room
     requires { ⌜ To end ≡ stepOf (run (format.value end form) (now s) at) ⌝ }
-    ensures { λ r. ⌜ r ≡ plan_of.takenFrom room (length (saidBytes (suc depth) dialect (header_of.heard (run (format.value end form) (now (s .entry)) at)))) ⌝ }
+    ensures { λ r. ⌜ r ≡ steps.takenFrom room (length (saidBytes (suc depth) dialect (header_of.heard (run (format.value end form) (now (s .entry)) at)))) ⌝ }
 {
     if form == 9 {
         return array_room(room, s, at, end, dialect);
@@ -234,7 +229,7 @@ fn value_room(room: Room, s: &[u8], at: usize, end: usize, form: u64, dialect: D
 // The room without an entry.
 fn entry_room(room: Room, s: &[u8], parts: EntryParts, end: usize, dialect: Dialect) -> Room
     requires { ⌜ To end ≡ stepOf (run (format.value end (parts .form)) (now s) (parts .value)) ⌝ }
-    ensures { λ r. ⌜ r ≡ plan_of.takenFrom room (sizeWidth dialect + 4 + parts .key .len + length (saidBytes (suc depth) dialect (header_of.heard (run (format.value end (parts .form)) (now (s .entry)) (parts .value))))) ⌝ }
+    ensures { λ r. ⌜ r ≡ steps.takenFrom room (sizeWidth dialect + 4 + parts .key .len + length (saidBytes (suc depth) dialect (header_of.heard (run (format.value end (parts .form)) (now (s .entry)) (parts .value))))) ⌝ }
 {
     let key = parts.key;
     let named = take_from(take_from(room, size_width(dialect) + 4), key.len);
@@ -244,21 +239,15 @@ fn entry_room(room: Room, s: &[u8], parts: EntryParts, end: usize, dialect: Dial
 // The room without n entries, which are all there.
 fn entries_room(room: Room, s: &[u8], n: usize, dialect: Dialect) -> Room
     requires { ⌜ isAccepted (run (times n format.metadata) (now s) 1) ≡ true ⌝ }
-    ensures { λ r. ⌜ r ≡ plan_of.takenFrom room (length (rows (entryBytes dialect) (map header_of.enteredIn (got (run (times n format.metadata) (now (s .entry)) 1))))) ⌝ }
+    ensures { λ r. ⌜ r ≡ steps.takenFrom room (length (rows (entryBytes dialect) (map header_of.enteredIn (got (run (times n format.metadata) (now (s .entry)) 1))))) ⌝ }
 {
     let mut left = room;
     let mut from: usize = 1;
     let mut i: usize = 0;
     while i < n {
-        match sheet::entry_at(s, from) {
-            EntryFound::Bad => {
-                return left;
-            }
-            EntryFound::Found { parts, next } => {
-                left = entry_room(left, s, parts, next, dialect);
-                from = next;
-            }
-        }
+        let entry = sheet::entry_again(s, from);
+        left = entry_room(left, s, entry.parts, entry.next, dialect);
+        from = entry.next;
         i += 1;
     }
     left
@@ -267,7 +256,7 @@ fn entries_room(room: Room, s: &[u8], n: usize, dialect: Dialect) -> Room
 // The room without a tensor.
 fn tensor_room(room: Room, parts: TensorParts, dialect: Dialect) -> Room
     requires { ⌜ parts .shape .dimensions ≤ 4 ⌝ }
-    ensures { λ r. ⌜ r ≡ plan_of.takenFrom room (sizeWidth dialect + 16 + 8 * parts .shape .dimensions + parts .name .len) ⌝ }
+    ensures { λ r. ⌜ r ≡ steps.takenFrom room (sizeWidth dialect + 16 + 8 * parts .shape .dimensions + parts .name .len) ⌝ }
 {
     let name = parts.name;
     let x = parts.shape;
@@ -281,7 +270,7 @@ fn tensor_room(room: Room, parts: TensorParts, dialect: Dialect) -> Room
 // The room without m tensors, which are all there. What their offsets are does not matter.
 fn tensors_room(room: Room, s: &[u8], first: usize, m: usize, dialect: Dialect) -> Room
     requires { ⌜ isAccepted (run (times m format.tensor) (now s) first) ≡ true ⌝ }
-    ensures { λ r. ⌜ ((a : ℕ) (laid : Laid) → r ≡ plan_of.takenFrom room (length (rows (tensorBytes dialect) (header_of.weightsFrom a laid (got (run (times m format.tensor) (now (s .entry)) first)))))) ⌝ }
+    ensures { λ r. ⌜ ((a : ℕ) (laid : Laid) → r ≡ steps.takenFrom room (length (rows (tensorBytes dialect) (header_of.weightsFrom a laid (got (run (times m format.tensor) (now (s .entry)) first)))))) ⌝ }
 {
     let mut left = room;
     let mut from = first;
@@ -305,7 +294,7 @@ fn tensors_room(room: Room, s: &[u8], first: usize, m: usize, dialect: Dialect) 
 fn header_room(s: &[u8], dialect: Dialect, draft: Draft, room: usize) -> Room
     requires { ⌜ isAccepted (sheetOf (now s)) ≡ true ⌝ }
     requires { ⌜ draft ≡ plan_of.draftWith (draft .adds) (header_of.recordsIn (sheetOf (now s))) ⌝ }
-    ensures { λ r. ⌜ ((a : ℕ) → draft .adds ≡ header_of.adds a (header_of.saidIn (header_of.recordsIn (sheetOf (now (s .entry))) .entries)) → r ≡ plan_of.takenFrom (Left room) (header_of.endOf dialect a (header_of.recordsIn (sheetOf (now (s .entry)))))) ⌝ }
+    ensures { λ r. ⌜ ((a : ℕ) → draft .adds ≡ header_of.adds a (header_of.saidIn (header_of.recordsIn (sheetOf (now (s .entry))) .entries)) → r ≡ steps.takenFrom (Left room) (header_of.endOf dialect a (header_of.recordsIn (sheetOf (now (s .entry)))))) ⌝ }
 {
     let width = size_width(dialect);
     let added = if draft.adds { width + 25 } else { 0 };
@@ -318,7 +307,7 @@ fn header_room(s: &[u8], dialect: Dialect, draft: Draft, room: usize) -> Room
 fn plan_room(s: &[u8], dialect: Dialect, alignment: u64, draft: Draft, room: usize) -> Planned
     requires { ⌜ isAccepted (sheetOf (now s)) ≡ true ⌝ }
     requires { ⌜ draft ≡ plan_of.draftOf alignment (header_of.recordsIn (sheetOf (now s))) ⌝ }
-    ensures { λ r. ⌜ r ≡ plan_of.roomed dialect alignment room (header_of.recordsIn (sheetOf (now (s .entry)))) ⌝ }
+    ensures { λ r. ⌜ r ≡ steps.roomed dialect alignment room (header_of.recordsIn (sheetOf (now (s .entry)))) ⌝ }
 {
     let Room::Left { bytes } = header_room(s, dialect, draft, room) else {
         return Planned::Refused { why: 38, place: 0 };
@@ -357,7 +346,7 @@ fn counts_fit(dialect: Dialect, draft: Draft) -> bool
 fn plan_tensors(s: &[u8], dialect: Dialect, alignment: u64, draft: Draft, room: usize) -> Planned
     requires { ⌜ isAccepted (sheetOf (now s)) ≡ true ⌝ }
     requires { ⌜ draft ≡ plan_of.draftOf alignment (header_of.recordsIn (sheetOf (now s))) ⌝ }
-    ensures { λ r. ⌜ r ≡ plan_of.laid dialect alignment room (header_of.recordsIn (sheetOf (now (s .entry)))) ⌝ }
+    ensures { λ r. ⌜ r ≡ steps.laid dialect alignment room (header_of.recordsIn (sheetOf (now (s .entry)))) ⌝ }
 {
     match lay_tensors(s, draft.first, draft.tensors, alignment) {
         LaidOut::Refused { why, tensor } => Planned::Refused { why, place: tensor },
@@ -375,7 +364,7 @@ fn plan_tensors(s: &[u8], dialect: Dialect, alignment: u64, draft: Draft, room: 
 fn plan_alignment(s: &[u8], dialect: Dialect, alignment: u64, draft: Draft, room: usize) -> Planned
     requires { ⌜ isAccepted (sheetOf (now s)) ≡ true ⌝ }
     requires { ⌜ draft ≡ plan_of.draftWith false (header_of.recordsIn (sheetOf (now s))) ⌝ }
-    ensures { λ r. ⌜ r ≡ plan_of.aligned dialect alignment room (header_of.recordsIn (sheetOf (now (s .entry)))) ⌝ }
+    ensures { λ r. ⌜ r ≡ steps.aligned dialect alignment room (header_of.recordsIn (sheetOf (now (s .entry)))) ⌝ }
 {
     if alignment == 0 {
         return Planned::Refused { why: 32, place: 0 };

@@ -3,7 +3,7 @@ use Prim.Native.Nat.{ℕ, suc, _+_}
 use mathlib.Core.Path.{_≡_, refl}
 use mathlib.Core.List.{List, [], _∷_, _++_}
 use Rattle.reading.specs.Each.{each}
-use Rattle.reading.specs.Reading.{accepted, refused, run, here, andThen, _>>=_}
+use Rattle.reading.specs.Reading.{accepted, refused, run, _>>=_, here, andThen}
 use Rattle.fields.specs.Value.{number}
 use Rattle.values.specs.Contents.{one, word, list, Content}
 use Rattle.scalars.specs.Scalars.{scalarWidth}

@@ -6,7 +6,7 @@ use mathlib.Core.Bool.{true, false}
 use native.Mathlib.Omega.{arith}
 use lib.Dec.{ltb}
 use borrow.Author.Tests.{lt-ltb, le-ltb, ne-eqb}
-use Rattle.reading.specs.Reading.{done, accepted, refused, run, here, andThen, _>>=_}
+use Rattle.reading.specs.Reading.{done, accepted, refused, run, _>>=_, here, andThen}
 use Rattle.fields.specs.Value.{widthOf}
 use Rattle.fields.specs.declared.Width.{Width}
 use Rattle.fields.specs.declared.Width.the-variants.{One, Two, Four, Eight}

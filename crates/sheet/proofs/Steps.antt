@@ -2,11 +2,12 @@
 use Prim.Native.Nat.{ℕ, _+_, _-_, _<_}
 use mathlib.Core.Path.{_≡_, refl, sym, ap, _∙_}
 use mathlib.Core.List.{List}
+use mathlib.Core.Bool.{true}
 use native.Mathlib.Omega.{arith}
 use lib.ListN.{length}
-use Rattle.reading.specs.Reading.{Reading, Answer, accepted, refused, run, andThen, seen, passed}
+use Rattle.reading.specs.Reading.{Reading, Answer, accepted, refused, run, andThen, seen, passed, isAccepted}
 use Rattle.reading.specs.Each.{times}
-use Rattle.reading.proofs.Turns.{times-stops, times-passed}
+use Rattle.reading.proofs.Turns.{times-stops, times-passed, times-never}
 use Rattle.tensors.specs.declared.Shape.{Shape}
 use Rattle.values.specs.declared.Span.{Span}
 use Rattle.sheet.specs.Format.{Text, Line, Drawn}
@@ -105,3 +106,11 @@ module _ {A : Type 0} (m : Reading A) (s : List ℕ) (at n i : ℕ) (below : i <
 
   pub steps-not : Bad ≡ stepOf (run m s at) → stepOf (run (times (n - i) m) s at) ≡ Bad
   steps-not e = ap stepOf (times-stops m s at n i below (step-no (run m s at) e .is))
+
+  -- where all that are left are there, so is the next
+  pub next-there : isAccepted (run (times (n - i) m) s at) ≡ true → isAccepted (run m s at) ≡ true
+  next-there all = by (run m s at) refl
+    where
+      by : (r : Answer A) → r ≡ run m s at → isAccepted r ≡ true
+      by (accepted a q) e = refl
+      by (refused w p) e = absurd (times-never m s at n i below e all)

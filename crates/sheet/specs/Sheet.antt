@@ -1,6 +1,6 @@
 -- A record sheet: the version byte 1, the metadata entries with their keys in order, and the tensors, used up exactly.
 use Prim.Native.Nat.{ℕ, zero, suc, _+_}
-use mathlib.Core.Bool.{Bool, true}
+use mathlib.Core.Bool.{Bool, true, false}
 use mathlib.Core.List.{List, [], _∷_}
 use lib.Dec.{leb, ltb, eqb}
 use lib.ListN.{length, getD}
@@ -8,6 +8,7 @@ use Rattle.reading.specs.Choice.{if_then_else_}
 use Rattle.fields.specs.Order.{before}
 use Rattle.reading.specs.Reading.{Reading, done, Answer, accepted, refused, run, _>>=_, _>>_, andThen}
 use Rattle.tensors.specs.declared.Shape.{Shape}
+use Rattle.values.specs.declared.Span.{Span}
 use Rattle.values.specs.Contents.{insideOf}
 use Rattle.sheet.specs.Format.{must, Text, Line, metadata, Drawn, tensor}
 use Rattle.sheet.specs.declared.Stepped.{Stepped}

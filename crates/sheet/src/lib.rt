@@ -1,7 +1,9 @@
 // The record sheet: metadata entries with ascending keys and then tensors, from which a header is written.
 //
-// `check` tells whether a sheet is well formed and how many records it has; `entry_at` and `tensor_at` tell where the parts of one entry are. Reading a sheet copies
-// nothing: keys, names and values are places in it.
+// `check` tells whether a sheet is well formed and how many records it has; `entry_at` and
+// `tensor_at` tell where the parts of one entry are, and `entry_again` those of an entry that was
+// checked before, with no test. Reading a sheet copies nothing: keys, names and values are places
+// in it.
 use fields::Number;
 use fields::Width;
 use values::Dialect;
@@ -13,12 +15,13 @@ ghost use mathlib.Core.Path.{_≡_};
 ghost use mathlib.Core.Bool.{true};
 ghost use Prim.Native.Nat.{_+_, _≤_, _<_};
 ghost use lib.ListN.{length};
-ghost use Rattle.reading.specs.Reading.{run, seen};
+ghost use Rattle.reading.specs.Reading.{run, seen, isAccepted};
 ghost use Rattle.reading.specs.Each.{times};
 ghost use Rattle.fields.specs.Value.{widthOf, asNumber};
 ghost use Rattle.scalars.specs.Scalars.{scalarWidth};
 ghost use Rattle.values.specs.Format.{depth};
 ghost use Rattle.values.specs.Contents.{insideOf};
+ghost use Rattle.sheet.specs.declared.EntryFound.the-variants.{Found};
 ghost use Rattle.sheet.specs.Format as format;
 ghost use Rattle.sheet.specs.Sheet as sheet;
 
@@ -49,6 +52,12 @@ pub struct EntryParts {
 pub enum EntryFound {
     Found { parts: EntryParts, next: usize },
     Bad,
+}
+
+// A metadata entry that is known to be well formed: its parts, and the place after it.
+pub struct KnownEntry {
+    pub parts: EntryParts,
+    pub next: usize,
 }
 
 // The key before an entry's, if there is one.
@@ -296,6 +305,26 @@ pub fn entry_at(s: &[u8], at: usize) -> EntryFound
                 }
             }
         },
+    }
+}
+
+// Where the parts of a metadata entry are that was checked before. It tests nothing and passes no
+// value: the entry's own length tells where it ends.
+pub fn entry_again(s: &[u8], at: usize) -> KnownEntry
+    requires { ⌜ isAccepted (run format.metadata (now s) at) ≡ true ⌝ }
+    ensures { λ r. ⌜ Found (r .parts) (r .next) ≡ sheet.entryOf (run format.metadata (now (s .entry)) at) ⌝ }
+{
+    let n = fields::value_in(s, at, Width::Four, true);
+    let len = fields::value_in(s, at + 5, Width::Four, true) as usize;
+    let place = at + 9;
+    let to = place + len;
+    KnownEntry {
+        parts: EntryParts {
+            key: Span { place, len },
+            form: fields::value_in(s, to, Width::One, true),
+            value: to + 1,
+        },
+        next: at + 4 + (n as usize),
     }
 }
 

@@ -17,7 +17,7 @@ use Rattle.layout.specs.declared.Laid.{Laid}
 use Rattle.layout.specs.Layout.{nothingLaid, layoutOf}
 use Rattle.values.specs.declared.Dialect.{Dialect}
 use Rattle.values.specs.Format.{sizeWidth}
-use Rattle.values.specs.Contents.{entryBytes}
+use Rattle.values.specs.Contents.{Entered, entryBytes}
 use Rattle.tensors.specs.Contents.{tensorBytes}
 use Rattle.start.specs.Contents.{startBytes}
 use Rattle.header.specs.Contents.{startIn, headerBytes}
@@ -26,13 +26,15 @@ use Rattle.sheet.specs.Format.{Line, Drawn, metadata, tensor}
 use Rattle.sheet.specs.Sheet.{Records, sheetOf}
 use Rattle.sheet.proofs.Parts.{entry-ends}
 use Rattle.sheet.proofs.Whole.{sheet-entries, sheet-tensors}
+use Rattle.plan.specs.declared.Draft.{Draft}
 use Rattle.plan.specs.declared.Plan.{Plan}
 use Rattle.plan.specs.declared.Planned.{Planned}
-use Rattle.plan.specs.declared.Planned.the-variants.{Fine}
+use Rattle.plan.specs.declared.Planned.the-variants.{Fine, Refused}
 use Rattle.plan.specs.declared.LaidOut.{LaidOut}
 use Rattle.plan.specs.declared.LaidOut.the-variants.{Fits, Refused as NotLaid}
-use Rattle.plan.specs.Header.{saidIn, entriesWith, entriesOf, pieceOf, weightsFrom, laidWith, sheetFor, recordsIn, endOf, startOf}
-use Rattle.plan.specs.Plan.{require, requireLaid, isAlignment, canAdd, agrees, laidOf, countsFit, planOf, laid, aligned, formed, planFor}
+use Rattle.plan.specs.Header.{saidIn, inserted, enteredIn, entriesWith, entriesOf, pieceOf, weightsFrom, laidWith, sheetFor, recordsIn, endOf, startOf}
+use Rattle.plan.specs.Plan.{requireFormed, require, requireLaid, isAlignment, canAdd, agrees, laidOf, countsFit, draftOf, planOf, planFor}
+use Rattle.plan.specs.Steps.{aligned}
 use Rattle.plan.proofs.Sizes.{start-length}
 use Rattle.plan.proofs.Drafts.{entries-count, padded-not-below}
 use Rattle.writer.specs.Output.{headerFor, leftBy, entryCount}
@@ -52,7 +54,7 @@ pub record PlannedBy (k : Dialect) (a room : ℕ) (s : List ℕ) (plan : Plan) :
   pub told : plan ≡ planOf k a records
 
 -- a test that held, and what follows it
-passed : (t : Bool) (w p : ℕ) (rest : Planned) {plan : Plan} → Fine plan ≡ require t w p rest → (t ≡ true) × (Fine plan ≡ rest)
+passed : (t : Bool) (w p : ℕ) (rest : Planned) {plan : Plan} → Fine plan ≡ require t (Refused w p) rest → (t ≡ true) × (Fine plan ≡ rest)
 passed true w p rest e = (refl, e)
 passed false w p rest e = let z : _≡_ {A = ℕ} 0 1 = cc in absurd (omega arith)
 
@@ -61,7 +63,7 @@ passed-laid Fits rest e = (refl, e)
 passed-laid (NotLaid w i) rest e = let z : _≡_ {A = ℕ} 0 1 = cc in absurd (omega arith)
 
 module _ (k : Dialect) (a room : ℕ) (s : List ℕ) {plan : Plan} where
-  by : knownVersion (k .version) ≡ true → (r : Answer Records) → r ≡ sheetOf s → Fine plan ≡ formed k a room r → PlannedBy k a room s plan
+  by : knownVersion (k .version) ≡ true → (r : Answer Records) → r ≡ sheetOf s → Fine plan ≡ requireFormed r 31 (aligned k a room) → PlannedBy k a room s plan
   by v (refused n p) h e = let z : _≡_ {A = ℕ} 0 1 = cc in absurd (omega arith)
   by v (accepted c q) h e =
       let one = passed (isAlignment a) 32 0 _ e in

@@ -11,7 +11,6 @@ use plan::Planned;
 use values::Dialect;
 use scalars::ScalarWidth;
 use tensors::Shape;
-use sheet::EntryFound;
 use sheet::EntryParts;
 use sheet::TensorFound;
 use sheet::TensorParts;
@@ -31,6 +30,7 @@ ghost use Rattle.values.specs.Format.{sizeWidth, depth};
 ghost use Rattle.scalars.specs.Scalars.{scalarWidth};
 ghost use Rattle.values.specs.Contents as contents;
 ghost use Rattle.tensors.specs.Contents.{lengthBytes, shapeBytes, storedBytes, tensorBytes};
+ghost use Rattle.start.specs.Format.{littleMagic};
 ghost use Rattle.start.specs.Contents.{startBytes};
 ghost use Rattle.header.specs.Contents.{headerBytes};
 ghost use Rattle.sheet.specs.Format as format;
@@ -224,27 +224,19 @@ fn write_entries(out: &mut [u8], s: &[u8], at: usize, n: usize, dialect: Dialect
     let mut done: usize = 0;
     let mut i: usize = 0;
     while i < n {
-        match sheet::entry_at(s, from) {
-            EntryFound::Bad => {
-                return Copied {
-                    written: done,
-                    next: from,
-                };
-            }
-            EntryFound::Found { parts, next } => {
-                let key = parts.key;
-                done += write_entry(
-                    &mut out[done..],
-                    values::inside(s, key),
-                    s,
-                    parts.value,
-                    next,
-                    parts.form,
-                    dialect,
-                );
-                from = next;
-            }
-        }
+        let entry = sheet::entry_again(s, from);
+        let parts = entry.parts;
+        let key = parts.key;
+        done += write_entry(
+            &mut out[done..],
+            values::inside(s, key),
+            s,
+            parts.value,
+            entry.next,
+            parts.form,
+            dialect,
+        );
+        from = entry.next;
         i += 1;
     }
     Copied {
@@ -272,18 +264,13 @@ fn entries_before(s: &[u8], n: usize) -> usize
     let mut from: usize = 1;
     let mut i: usize = 0;
     while i < n {
-        match sheet::entry_at(s, from) {
-            EntryFound::Bad => {
-                return n;
-            }
-            EntryFound::Found { parts, next } => {
-                let key = parts.key;
-                if fields::comes_before(b"general.alignment", values::inside(s, key)) {
-                    return i;
-                }
-                from = next;
-            }
+        let entry = sheet::entry_again(s, from);
+        let parts = entry.parts;
+        let key = parts.key;
+        if fields::comes_before(b"general.alignment", values::inside(s, key)) {
+            return i;
         }
+        from = entry.next;
         i += 1;
     }
     n
@@ -326,6 +313,24 @@ fn write_length(out: &mut [u8], n: u64, i: u64, v: u64, dialect: Dialect) -> usi
     }
 }
 
+// The lengths at the places i and i + 1 of a shape of n dimensions.
+fn write_two_lengths(
+    out: &mut [u8],
+    n: u64,
+    i: u64,
+    first: u64,
+    second: u64,
+    dialect: Dialect,
+) -> usize
+    requires { ⌜ i < 4 ⌝ }
+    requires { ⌜ output.lengthSize n i + output.lengthSize n (i + 1) ≤ length (now out) ⌝ }
+    ensures { λ r. ⌜ r ≡ output.lengthSize n i + output.lengthSize n (i + 1) ⌝ }
+    ensures { λ r. ⌜ Wrote (lengthBytes dialect n i first ++ lengthBytes dialect n (i + 1) second) (now (out .entry)) (now (out .exit)) r ⌝ }
+{
+    let a = write_length(out, n, i, first, dialect);
+    a + write_length(&mut out[a..], n, i + 1, second, dialect)
+}
+
 // The count of dimensions, and that many lengths.
 fn write_shape(out: &mut [u8], x: Shape, dialect: Dialect) -> usize
     requires { ⌜ output.shapeSize (x .dimensions) ≤ length (now out) ⌝ }
@@ -334,10 +339,8 @@ fn write_shape(out: &mut [u8], x: Shape, dialect: Dialect) -> usize
 {
     let n = x.dimensions;
     let a = write_type(out, n, dialect);
-    let b = a + write_length(&mut out[a..], n, 0, x.first, dialect);
-    let c = b + write_length(&mut out[b..], n, 1, x.second, dialect);
-    let d = c + write_length(&mut out[c..], n, 2, x.third, dialect);
-    d + write_length(&mut out[d..], n, 3, x.fourth, dialect)
+    let b = a + write_two_lengths(&mut out[a..], n, 0, x.first, x.second, dialect);
+    b + write_two_lengths(&mut out[b..], n, 2, x.third, x.fourth, dialect)
 }
 
 // The kind and the offset.
@@ -430,16 +433,25 @@ fn write_tensor_info_section(
     done
 }
 
+// The magic and the version.
+fn write_magic(out: &mut [u8], dialect: Dialect) -> usize
+    requires { ⌜ 8 ≤ length (now out) ⌝ }
+    ensures { λ r. ⌜ r ≡ 8 ⌝ }
+    ensures { λ r. ⌜ Wrote (bytesOf (dialect .big) 4 littleMagic ++ contents.typeBytes dialect (dialect .version)) (now (out .entry)) (now (out .exit)) r ⌝ }
+{
+    let a = fields::put_number(out, 0x46554747, Width::Four, dialect.big);
+    a + write_type(&mut out[a..], dialect.version, dialect)
+}
+
 // What stands before the first record.
 fn write_start(out: &mut [u8], tensors: u64, entries: u64, dialect: Dialect) -> usize
     requires { ⌜ 8 + sizeWidth dialect + sizeWidth dialect ≤ length (now out) ⌝ }
     ensures { λ r. ⌜ r ≡ 8 + sizeWidth dialect + sizeWidth dialect ⌝ }
     ensures { λ r. ⌜ Wrote (startBytes (record { dialect = dialect; tensors = tensors; entries = entries })) (now (out .entry)) (now (out .exit)) r ⌝ }
 {
-    let a = fields::put_number(out, 0x46554747, Width::Four, dialect.big);
-    let b = a + write_type(&mut out[a..], dialect.version, dialect);
-    let c = b + write_size(&mut out[b..], tensors, dialect);
-    c + write_size(&mut out[c..], entries, dialect)
+    let a = write_magic(out, dialect);
+    let b = a + write_size(&mut out[a..], tensors, dialect);
+    b + write_size(&mut out[b..], entries, dialect)
 }
 
 // How many entries the header has, the added one included.

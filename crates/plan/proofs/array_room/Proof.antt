@@ -14,7 +14,7 @@ use Rattle.fields.specs.Value.{number, asNumber}
 use Rattle.values.specs.Format.{depth}
 use Rattle.sheet.specs.Format.{array, item}
 use Rattle.sheet.proofs.Steps.{step-yes}
-use Rattle.plan.specs.Plan.{takenFrom}
+use Rattle.plan.specs.Steps.{takenFrom}
 use Rattle.plan.proofs.Rooms.{taken-thrice}
 use Rattle.plan.proofs.Sizes.{size-cases}
 use Rattle.plan.proofs.Measures.{wider, Measured, array-typed, array-counted, array-measure, array-size}

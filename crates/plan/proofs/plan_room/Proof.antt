@@ -13,7 +13,7 @@ use Rattle.sheet.specs.Sheet.{sheetOf}
 use Rattle.plan.specs.declared.Draft.{Draft}
 use Rattle.plan.specs.declared.Room.the-variants.{Left}
 use Rattle.plan.specs.Header.{recordsIn, endOf, startOf}
-use Rattle.plan.specs.Plan.{takenFrom}
+use Rattle.plan.specs.Steps.{takenFrom}
 use Rattle.plan.proofs.Drafts.{draft-with, padded-not-below, Taken, left-taken, over-taken, no-room, enough-room}
 use Rattle.plan.proofs.plan_room.Statement.{statement}
 use Rattle.plan.proofs.plan_room.Tie as tie

@@ -1,7 +1,7 @@
 -- `plan::take_from` meets its contract: what does not fit leaves nothing, and what does is taken from the rest. Assumes nothing.
 use borrow.Author.Needs.{needs}
 use borrow.Author.Tests.{le-leb, lt-leb}
-use Rattle.plan.specs.Plan.{takenFrom}
+use Rattle.plan.specs.Steps.{takenFrom}
 use Rattle.plan.proofs.take_from.Statement.{statement}
 use Rattle.plan.proofs.take_from.Tie as tie
 

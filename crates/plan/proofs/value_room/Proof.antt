@@ -4,7 +4,7 @@ use mathlib.Core.Path.{ap, _∙_}
 use Rattle.sheet.specs.Sheet.{stepOf}
 use Rattle.sheet.proofs.Parts.{onward}
 use Rattle.sheet.proofs.Steps.{step-yes}
-use Rattle.plan.specs.Plan.{takenFrom}
+use Rattle.plan.specs.Steps.{takenFrom}
 use Rattle.plan.proofs.Rooms.{taken-twice}
 use Rattle.plan.proofs.Measures.{text-size, scalar-size, value-is-array}
 use Rattle.plan.proofs.value_room.Statement.{statement}

@@ -5,11 +5,9 @@ use mathlib.Core.Path.{_≡_, sym, ap, _∙_}
 use native.Mathlib.Omega.{arith}
 use denote.Ref.{now}
 use Rattle.fields.specs.Order.{before}
-use Rattle.reading.specs.Reading.{run}
-use Rattle.reading.proofs.Turns.{times-never}
 use Rattle.values.specs.Format.{alignmentKey}
 use Rattle.sheet.specs.Format.{metadata}
-use Rattle.sheet.proofs.Steps.{entry-no}
+use Rattle.sheet.proofs.Steps.{next-there}
 use Rattle.writer.proofs.Entries.{EntryThere, entry-there, Passed, passed-start, passed-here, passed-turn, passed-end}
 use Rattle.writer.proofs.entries_before.Statement.{statement}
 use Rattle.writer.proofs.entries_before.Tie as tie
@@ -23,22 +21,14 @@ abbrev μ-loop : tie.MeasureT-loop
 loop-holds : tie.Need-loop-holds Inv-loop μ-loop
 loop-holds c = passed-start _ _ (c .before .pre)
 
--- the entry that was found
-entry : (c : tie.After-parts Inv-loop μ-loop) →
-    let l = c .before .before .before .before .loop in
-    let a = c .before .before .before .before .before .before .args in
-    EntryThere (now (a .s)) (l .from) (c .parts .given .0 .0) (c .parts .given .0 .1 .0)
-entry c =
-    let l = c .before .before .before .before .loop in
-    let a = c .before .before .before .before .before .before .args in
-    entry-there (now (a .s)) (l .from) (sym (c .parts .given .1) ∙ c .before .before .entry-at .ensures)
+entry-again-requires : tie.Need-entry-again-requires Inv-loop μ-loop
+entry-again-requires c κs = next-there metadata _ _ _ _ (c .loop-test .taken) (c .before .loop .inv .all)
 
-returns : tie.Need-returns Inv-loop μ-loop
-returns c =
-    let l = c .before .before .before .before .loop in
-    let a = c .before .before .before .before .before .before .args in
-    let r = entry-no (run metadata (now (a .s)) (l .from)) (sym (c .enum-told .given .1) ∙ c .before .before .entry-at .ensures) in
-    absurd (times-never metadata (now (a .s)) (l .from) (a .n) (l .i) (c .before .before .before .loop-test .taken) (r .is) (l .inv .all))
+-- the entry that was read again
+entry : (c : tie.After-entry-again Inv-loop μ-loop) →
+    let l = c .before .before in
+    EntryThere (now (l .before .before .args .s)) (l .loop .from) (c .entry-again .result .parts) (c .entry-again .result .next)
+entry c = entry-there _ _ (c .entry-again .ensures)
 
 -- whether the alignment's key comes before its own
 ahead : (c : tie.After-comes-before Inv-loop μ-loop) → before alignmentKey (entry (c .before .before .before .before .before) .what .entered .key) ≡ c .comes-before .result
@@ -46,18 +36,18 @@ ahead c =
     let x = entry (c .before .before .before .before .before) in
     ap (before alignmentKey) (sym (c .before .inside .ensures ∙ x .key)) ∙ sym (c .comes-before .ensures)
 
-returns-2 : tie.Need-returns-2 Inv-loop μ-loop
-returns-2 c =
-    let p = c .before .before .before .before .before .before in
-    passed-here _ _ (p .before .before .before .before .loop .inv) (p .before .before .before .loop-test .taken) (entry p .is) (ahead (c .before) ∙ c .if1 .taken)
+returns : tie.Need-returns Inv-loop μ-loop
+returns c =
+    let e = c .before .before .before .before .before .before in
+    passed-here _ _ (e .before .before .loop .inv) (e .before .loop-test .taken) (entry e .is) (ahead (c .before) ∙ c .if1 .taken)
 
 loop-again : tie.Need-loop-again Inv-loop μ-loop
 loop-again c =
-    let p = c .before .before .before .before .before .before in
-    passed-turn _ _ (p .before .before .before .before .loop .inv) (p .before .before .before .loop-test .taken) (entry p .is) (ahead (c .before) ∙ c .if1 .left)
+    let e = c .before .before .before .before .before .before in
+    passed-turn _ _ (e .before .before .loop .inv) (e .before .loop-test .taken) (entry e .is) (ahead (c .before) ∙ c .if1 .left)
 
-returns-3 : tie.Need-returns-3 Inv-loop μ-loop
-returns-3 c = passed-end _ _ (c .before .loop .inv) (c .loop-test .left)
+returns-2 : tie.Need-returns-2 Inv-loop μ-loop
+returns-2 c = passed-end _ _ (c .before .loop .inv) (c .loop-test .left)
 
 pub entries-before-spec : {M : Type 1} → statement M
 entries-before-spec =
@@ -66,15 +56,12 @@ entries-before-spec =
     Inv-loop
     μ-loop
     loop-holds
-    (λ c κs. search needs)
+    entry-again-requires
     (λ c. search needs)
+    (λ c κs. search needs)
+    (λ c κs. search needs)
     returns
-    (λ c. search needs)
-    (λ c. search needs)
-    (λ c κs. search needs)
-    (λ c κs. search needs)
-    returns-2
     (λ c. omega arith)
     (λ c. omega arith)
     loop-again
-    returns-3)
+    returns-2)

@@ -1,8 +1,8 @@
 -- `writer::write_alignment` meets its contract: a key, a type and a number, one after the other. Assumes nothing.
-use borrow.Author.Needs.{needs}
 use Rattle.fields.proofs.Chain.{chain}
 use Rattle.values.specs.Contents.{entryBytes, saidBytes}
 use Rattle.scalars.specs.Scalars.{scalarWidth}
+use borrow.Author.Needs.{needs}
 use Rattle.writer.proofs.write_alignment.Statement.{statement}
 use Rattle.writer.proofs.write_alignment.Tie as tie
 

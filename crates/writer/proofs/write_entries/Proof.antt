@@ -8,11 +8,10 @@ use denote.Ref.{now}
 use Rattle.reading.specs.Back.{got, rows}
 use Rattle.reading.specs.Each.{times}
 use Rattle.reading.specs.Reading.{run}
-use Rattle.reading.proofs.Turns.{times-never}
 use Rattle.values.specs.Contents.{entryBytes}
 use Rattle.plan.specs.Header.{enteredIn}
 use Rattle.sheet.specs.Format.{metadata}
-use Rattle.sheet.proofs.Steps.{entry-no}
+use Rattle.sheet.proofs.Steps.{next-there}
 use Rattle.plan.proofs.Sizes.{entry-size}
 use Rattle.writer.proofs.Entries.{EntryThere, entry-there}
 use Rattle.writer.proofs.Rows.{wrote-as, rows-map, Left, left-start, left-room, left-turn, left-end}
@@ -28,40 +27,29 @@ abbrev μ-loop : tie.MeasureT-loop
 loop-holds : tie.Need-loop-holds Inv-loop μ-loop
 loop-holds c = left-start _ _ _ _ _ _ (c .before .before .pre .0)
 
--- the entry that was found
-entry : (c : tie.After-parts Inv-loop μ-loop) →
-    let l = c .before .before .before .before .loop in
-    let a = c .before .before .before .before .before .before .before .args in
-    EntryThere (now (a .s)) (l .from) (c .parts .given .0 .0) (c .parts .given .0 .1 .0)
-entry c =
-    let l = c .before .before .before .before .loop in
-    let a = c .before .before .before .before .before .before .before .args in
-    entry-there (now (a .s)) (l .from) (sym (c .parts .given .1) ∙ c .before .before .entry-at .ensures)
+entry-again-requires : tie.Need-entry-again-requires Inv-loop μ-loop
+entry-again-requires c κs = next-there metadata _ _ _ _ (c .loop-test .taken) (c .before .loop .inv .all)
+
+-- the entry that was read again
+entry : (c : tie.After-entry-again Inv-loop μ-loop) →
+    let l = c .before .before in
+    EntryThere (now (l .before .before .before .args .s)) (l .loop .from) (c .entry-again .result .parts) (c .entry-again .result .next)
+entry c = entry-there _ _ (c .entry-again .ensures)
 
 -- there is room for all the entries, and so for this one
-all-room : (c : tie.After-parts Inv-loop μ-loop) →
-    let a = c .before .before .before .before .before .before .before .args in
+all-room : (c : tie.After-entry-again Inv-loop μ-loop) →
+    let a = c .before .before .before .before .before .args in
     length (rows (λ e. entryBytes (a .dialect) (enteredIn e)) (got (run (times (a .n) metadata) (now (a .s)) (a .at)))) ≤ length (now (a .out))
 all-room c =
-    let u = c .before .before .before .before .before .before .before in
+    let u = c .before .before .before .before .before in
     let a = u .args in
     subst (λ l. length l ≤ length (now (a .out))) (rows-map (entryBytes (a .dialect)) enteredIn (got (run (times (a .n) metadata) (now (a .s)) (a .at)))) (u .pre .1)
 
-room : (c : tie.After-parts Inv-loop μ-loop) →
-    let l = c .before .before .before .before .loop in
-    let a = c .before .before .before .before .before .before .before .args in
+room : (c : tie.After-entry-again Inv-loop μ-loop) →
+    let l = c .before .before .loop in
+    let a = c .before .before .before .before .before .args in
     l .done + length (entryBytes (a .dialect) (entry c .what .entered)) ≤ length (l .out)
-room c = left-room _ _ _ _ _ (c .before .before .before .before .loop .inv) (c .before .before .before .loop-test .taken) (entry c .is) (all-room c)
-
-same-length : tie.Need-same-length Inv-loop μ-loop
-same-length c = c .before .before .before .before .loop .inv .part .same
-
-returns : tie.Need-returns Inv-loop μ-loop
-returns c =
-    let l = c .before .before .before .before .loop in
-    let a = c .before .before .before .before .before .before .before .args in
-    let r = entry-no (run metadata (now (a .s)) (l .from)) (sym (c .enum-told .given .1) ∙ c .before .before .entry-at .ensures) in
-    absurd (times-never metadata (now (a .s)) (l .from) (a .n) (l .i) (c .before .before .before .loop-test .taken) (r .is) (l .inv .all))
+room c = left-room _ _ _ _ _ (c .before .before .loop .inv) (c .before .loop-test .taken) (entry c .is) (all-room c)
 
 sub-write-entry : tie.Need-sub-write-entry Inv-loop μ-loop
 sub-write-entry c = omega (arith, room (c .before .before))
@@ -76,30 +64,30 @@ write-entry-requires : tie.Need-write-entry-requires Inv-loop μ-loop
 write-entry-requires c κs =
     let p = c .before .before .before .before in
     let x = entry p in
-    let a = p .before .before .before .before .before .before .before .args in
+    let a = p .before .before .before .before .before .args in
     let e = sym (entry-size (a .dialect) _ _ _) ∙ ap length (x .bytes (a .dialect) (c .inside .ensures)) in
     (x .ends, simp (length-take, length-drop) (omega (arith, room p, e)))
 
 add-done : tie.Need-add-done Inv-loop μ-loop
 add-done c =
     let p = c .before .before .before .before .before .before .before in
-    let a = p .before .before .before .before .before .before .before .args in
+    let a = p .before .before .before .before .before .args in
     let w = wrote-as (entry p .bytes (a .dialect) (c .before .before .before .inside .ensures)) (c .before .before .write-entry .ensures) in
-    omega (arith, room p, p .before .before .before .before .loop .inv .part .same, w .count)
+    omega (arith, room p, p .before .before .loop .inv .part .same, w .count)
 
 loop-again : tie.Need-loop-again Inv-loop μ-loop
 loop-again c =
     let p = c .before .before .before .before .before .before .before in
-    let a = p .before .before .before .before .before .before .before .args in
+    let a = p .before .before .before .before .before .args in
     let x = entry p in
-    left-turn _ _ _ _ _ (p .before .before .before .before .loop .inv) (p .before .before .before .loop-test .taken) (x .is) (x .bytes (a .dialect) (c .before .before .before .inside .ensures))
+    left-turn _ _ _ _ _ (p .before .before .loop .inv) (p .before .loop-test .taken) (x .is) (x .bytes (a .dialect) (c .before .before .before .inside .ensures))
     (c .before .before .write-entry .ensures) (c .before .before .write-entry .kept .0)
 
-same-length-2 : tie.Need-same-length-2 Inv-loop μ-loop
-same-length-2 c = c .before .loop .inv .part .same
+same-length : tie.Need-same-length Inv-loop μ-loop
+same-length c = c .before .loop .inv .part .same
 
-returns-2 : tie.Need-returns-2 Inv-loop μ-loop
-returns-2 c =
+returns : tie.Need-returns Inv-loop μ-loop
+returns c =
     let a = c .before .before .before .before .args in
     let r = left-end _ _ _ _ _ (c .before .loop .inv) (c .loop-test .left) in
     (wrote-as (sym (rows-map (entryBytes (a .dialect)) enteredIn (got (run (times (a .n) metadata) (now (a .s)) (a .at))))) (r .0), r .1)
@@ -111,11 +99,7 @@ write-entries-spec =
     Inv-loop
     μ-loop
     loop-holds
-    (λ c κs. search needs)
-    (λ c. search needs)
-    same-length
-    returns
-    (λ c. search needs)
+    entry-again-requires
     sub-write-entry
     part-write-entry-start
     part-write-entry-end
@@ -125,5 +109,5 @@ write-entries-spec =
     (λ c. omega arith)
     (λ c. omega arith)
     loop-again
-    same-length-2
-    returns-2)
+    same-length
+    returns)

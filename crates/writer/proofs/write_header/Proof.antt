@@ -4,11 +4,11 @@ use mathlib.Core.Path.{_≡_, refl, sym, _∙_}
 use native.Mathlib.Omega.{arith}
 use denote.Ref.{now}
 use lib.ListN.{length, length-take, length-drop}
-use borrow.Author.Needs.{needs}
 use Rattle.fields.proofs.Chain.{chain}
 use Rattle.plan.specs.declared.Planned.the-variants.{Fine}
 use Rattle.plan.specs.Plan.{planFor}
 use Rattle.writer.proofs.Planned.{PlannedBy, planned-by, header-end, header-room, start-room, left-written}
+use borrow.Author.Needs.{needs}
 use Rattle.writer.proofs.write_header.Statement.{statement}
 use Rattle.writer.proofs.write_header.Tie as tie
 

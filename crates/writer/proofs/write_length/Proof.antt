@@ -1,8 +1,8 @@
 -- `writer::write_length` meets its contract: eight bytes where the place is below the count, and else none. Assumes nothing.
+use Rattle.tensors.specs.Contents.{lengthBytes}
 use borrow.Author.Tests.{lt-ltb, le-ltb}
 use mathlib.Core.Path.{refl}
 use borrow.Author.Needs.{needs}
-use Rattle.tensors.specs.Contents.{lengthBytes}
 use Rattle.writer.proofs.write_length.Statement.{statement}
 use Rattle.writer.proofs.write_length.Tie as tie
 

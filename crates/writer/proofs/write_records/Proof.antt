@@ -4,9 +4,9 @@ use native.Mathlib.Omega.{arith}
 use Prim.Native.Nat.{_-_}
 use lib.ListN.{length, length-take, length-drop}
 use borrow.Rule.Slice.PartMut.{same-len-mid}
-use borrow.Author.Needs.{needs}
 use Rattle.fields.proofs.Chain.{chain}
 use Rattle.writer.proofs.Planned.{planned-by, entries-all, tensors-all, tensors-fit, header-parts, parts-fit, count-small}
+use borrow.Author.Needs.{needs}
 use Rattle.writer.proofs.write_records.Statement.{statement}
 use Rattle.writer.proofs.write_records.Tie as tie
 

@@ -1,9 +1,9 @@
 -- `writer::write_scalar` meets its contract: the number that is read is the scalar's, and is written at its width. Assumes nothing.
 use mathlib.Core.Path.{sym, ap, _∙_}
 use denote.Ref.{now}
-use borrow.Author.Needs.{needs}
 use Rattle.fields.specs.Value.{asNumber}
 use Rattle.writer.proofs.Scalars.{scalar-none, scalar-some}
+use borrow.Author.Needs.{needs}
 use Rattle.writer.proofs.write_scalar.Statement.{statement}
 use Rattle.writer.proofs.write_scalar.Tie as tie
 

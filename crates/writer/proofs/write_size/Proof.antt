@@ -1,7 +1,7 @@
 -- `writer::write_size` meets its contract: four bytes in version 1, and else eight. Assumes nothing.
+use Rattle.values.specs.Contents.{sizeBytes}
 use borrow.Author.Tests.{eq-eqb, ne-eqb}
 use borrow.Author.Needs.{needs}
-use Rattle.values.specs.Contents.{sizeBytes}
 use Rattle.writer.proofs.write_size.Statement.{statement}
 use Rattle.writer.proofs.write_size.Tie as tie
 

@@ -1,8 +1,9 @@
--- `writer::write_start` meets its contract: magic, version and both counts, one after the other. Assumes nothing.
-use borrow.Author.Needs.{needs}
+-- `writer::write_start` meets its contract: magic and version, and then both counts, one after the
+-- other. Assumes nothing.
 use Rattle.fields.proofs.Chain.{chain}
 use Rattle.start.specs.Contents.{startBytes}
 use Rattle.values.specs.Contents.{typeBytes}
+use borrow.Author.Needs.{needs}
 use Rattle.writer.proofs.write_start.Statement.{statement}
 use Rattle.writer.proofs.write_start.Tie as tie
 
@@ -15,11 +16,6 @@ write-start-spec =
     tie.close
     (tie.spec
     (λ c κs. search needs)
-    (λ c. search needs)
-    (λ c. search needs)
-    (λ c. search needs)
-    (λ c κs. search needs)
-    (λ c. search needs)
     (λ c. search needs)
     (λ c. search needs)
     (λ c. search needs)

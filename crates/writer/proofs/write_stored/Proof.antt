@@ -1,7 +1,7 @@
 -- `writer::write_stored` meets its contract: the kind and the offset, one after the other. Assumes nothing.
-use borrow.Author.Needs.{needs}
 use Rattle.fields.proofs.Chain.{chain}
 use Rattle.tensors.specs.Contents.{storedBytes}
+use borrow.Author.Needs.{needs}
 use Rattle.writer.proofs.write_stored.Statement.{statement}
 use Rattle.writer.proofs.write_stored.Tie as tie
 

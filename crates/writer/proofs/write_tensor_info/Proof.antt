@@ -1,7 +1,7 @@
 -- `writer::write_tensor_info` meets its contract: the name, the shape, and the kind with the offset, one after the other. Assumes nothing.
-use borrow.Author.Needs.{needs}
 use Rattle.fields.proofs.Chain.{chain}
 use Rattle.tensors.specs.Contents.{tensorBytes}
+use borrow.Author.Needs.{needs}
 use Rattle.writer.proofs.write_tensor_info.Statement.{statement}
 use Rattle.writer.proofs.write_tensor_info.Tie as tie
 

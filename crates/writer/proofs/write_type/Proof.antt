@@ -1,6 +1,6 @@
 -- `writer::write_type` meets its contract: a number of four bytes. Assumes nothing.
-use borrow.Author.Needs.{needs}
 use Rattle.values.specs.Contents.{typeBytes}
+use borrow.Author.Needs.{needs}
 use Rattle.writer.proofs.write_type.Statement.{statement}
 use Rattle.writer.proofs.write_type.Tie as tie
 
