@@ -13,10 +13,10 @@ use Rattle.fields.specs.Bytes.{bytesOf, Byte}
 use Rattle.reading.specs.Reading.{accepted, run}
 use Rattle.fields.specs.Value.{value, number}
 use Rattle.fields.proofs.Bytes.{length-bytesOf, value-bytes, all-take, all-drop, value-small}
-use Rattle.reading.proofs.Back.{looked-at}
+use Rattle.reading.proofs.BackLaws.{looked-at}
 use Rattle.reading.specs.Ceilings.{under, Low}
 use Rattle.reading.specs.declared.Limits.{Limits}
-use Rattle.reading.proofs.Sure.{sure-field}
+use Rattle.reading.proofs.SureLaws.{sure-field}
 
 module _ {s : List ℕ} where
   -- a number that fits its width

@@ -5,12 +5,14 @@
 use libc::STDERR_FILENO;
 use libc::STDIN_FILENO;
 use libc::STDOUT_FILENO;
+use rows::ENTRY_WORDS;
+use rows::TENSOR_WORDS;
 
 // The listing of a prefix, on standard output.
 fn print_listing(prefix: &[u8]) {
-    let entry = [0u64; 7];
+    let entry = [0u64; ENTRY_WORDS];
     let mut entries = [entry; 512];
-    let tensor = [0u64; 10];
+    let tensor = [0u64; TENSOR_WORDS];
     let mut tensors = [tensor; 512];
     let mut text = [0u8; 262144];
     let n = listing::list(&mut text, prefix, &mut entries, &mut tensors);

@@ -8,16 +8,16 @@ use Rattle.reading.specs.Back.{Sure}
 use Rattle.reading.specs.Each.{fold}
 use Rattle.reading.specs.Reading.{accepted}
 use Rattle.reading.specs.declared.Limits.{Limits}
-use Rattle.reading.proofs.Sure.{sure-then, sure-done, sure-here, sure-check, sure-each, sure-under, whatever}
+use Rattle.reading.proofs.SureLaws.{sure-then, sure-done, sure-here, sure-check, sure-each, sure-under, whatever}
 use Rattle.kinds.specs.Shape.{greatest}
 use Rattle.layout.specs.Padding.{padded}
-use Rattle.header.specs.Answers.{wholeOf}
-use Rattle.header.specs.Format.{latest, Whole, header}
+use Rattle.header.specs.Answers.{readerRun}
+use Rattle.header.specs.Format.{latest, FullHeader, header}
 use Rattle.start.specs.declared.Rooms.{Rooms}
 use Rattle.start.proofs.RowsForCounts.{sure-start}
 
 -- as many records as are counted, and rows for them
-pub record Counted (rooms : Rooms) (w : Whole) : Type 0 where
+pub record Counted (rooms : Rooms) (w : FullHeader) : Type 0 where
   pub entries : length (w .entries) ≡ w .head .entries
   pub tensors : length (w .tensors) ≡ w .head .tensors
   pub entryRoom : w .head .entries ≤ rooms .entries
@@ -33,6 +33,6 @@ sure-counted rooms cap s p =
     sure-done (record { entries = n .0; tensors = m .0; entryRoom = room .0; tensorRoom = room .1 }))))))
 
 -- with any ceilings, cap and tables
-pub counted : (limits : Limits) (cap : ℕ) (es ts : List (List ℕ)) (s : List ℕ) {w : Whole} {q : ℕ} → accepted w q ≡ wholeOf limits cap es ts s
+pub counted : (limits : Limits) (cap : ℕ) (es ts : List (List ℕ)) (s : List ℕ) {w : FullHeader} {q : ℕ} → accepted w q ≡ readerRun limits cap es ts s
     → Counted (record { entries = length es; tensors = length ts }) w
 counted limits cap es ts s {w} {q} read = sure-under limits (sure-counted (record { entries = length es; tensors = length ts }) cap s 0) .holds w q read

@@ -6,23 +6,23 @@ use mathlib.Core.Bool.{true, false}
 use native.Mathlib.Omega.{arith}
 use lib.ListN.{take}
 use Rattle.fields.specs.Bytes.{little, bytesOf, Within}
-use Rattle.reading.specs.Back.{rows}
+use Rattle.reading.specs.Back.{bytesOfAll}
 use Rattle.reading.specs.Ceilings.{under, full}
 use Rattle.reading.specs.Each.{each}
 use Rattle.reading.specs.Reading.{accepted, refused, run, here, seen, _>>=_}
 use Rattle.fields.specs.Value.{number}
-use Rattle.header.specs.Answers.{wholeOf}
+use Rattle.header.specs.Answers.{readerRun}
 use Rattle.kinds.specs.Table.{blockOf}
-use Rattle.tensors.specs.Contents.{Weight, lengthBytes, shapeBytes, storedBytes, tensorBytes, FitsLength, FitsShape}
+use Rattle.tensors.specs.Contents.{TensorContent, lengthBytes, shapeBytes, kindAndOffsetBytes, tensorBytes, FitsLength, FitsShape, contentOf}
 use Rattle.values.specs.Contents.{sizeBytes, textBytes, typeBytes}
 use Rattle.values.specs.Format.{value, size, textLooking, text, alignmentKey, key, type, valueOf, entry}
 use Rattle.scalars.specs.Scalars.{scalarWidth}
-use Rattle.tensors.specs.Format.{lengthAt, lengthsOf, shape, stored, tensor}
-use Rattle.header.specs.Contents.{Sheet, headerBytes, toldIn, FitsSheet}
+use Rattle.tensors.specs.Format.{lengthAt, lengthsOf, shape, kindAndOffset, tensor}
+use Rattle.header.specs.Contents.{Contents, headerBytes, summaryIn, FitsContents}
 use Rattle.start.specs.Contents.{startBytes}
 use Rattle.start.specs.Format.{magic, version, counts, start}
 use Rattle.header.specs.Format.{header}
-use Rattle.header.proofs.Back.{reader-back}
+use Rattle.header.proofs.HeaderBack.{reader-back}
 use Rattle.header.specs.declared.Header.{Header}
 use Rattle.tensors.specs.declared.Tensor.{Tensor}
 use Rattle.scalars.specs.declared.Scalar.the-variants.{U32}
@@ -66,48 +66,48 @@ flat p k n o b = record {
 }
 
 -- 24 bytes, and the data after 32
-pub no-records : wholeOf full 0 [] [] empty3 ≡ accepted (record { head = plain 3 0 24 32; entries = []; tensors = [] }) 24
+pub no-records : readerRun full 0 [] [] empty3 ≡ accepted (record { head = plain 3 0 24 32; entries = []; tensors = [] }) 24
 unfolding run under each header magic version start counts size number here _>>=_
 no-records = refl
 
 -- 16 bytes, and the data after 32
-pub no-records-1 : wholeOf full 0 [] [] empty1 ≡ accepted (record { head = plain 1 0 16 32; entries = []; tensors = [] }) 16
+pub no-records-1 : readerRun full 0 [] [] empty1 ≡ accepted (record { head = plain 1 0 16 32; entries = []; tensors = [] }) 16
 unfolding run under each header magic version start counts size number here _>>=_
 no-records-1 = refl
 
 -- 90 bytes, and the data after 96: 20 bytes and 6
-pub two-tensors : wholeOf full 0 [] ([] ∷ [] ∷ []) tensors3 ≡ accepted (record { head = plain 3 2 90 96; entries = []; tensors = flat 32 0 5 0 20 ∷ flat 65 1 3 32 6 ∷ [] }) 90
-unfolding run under each header magic version start counts size number here _>>=_ tensor text textLooking shape lengthsOf lengthAt stored blockOf
+pub two-tensors : readerRun full 0 [] ([] ∷ [] ∷ []) tensors3 ≡ accepted (record { head = plain 3 2 90 96; entries = []; tensors = flat 32 0 5 0 20 ∷ flat 65 1 3 32 6 ∷ [] }) 90
+unfolding run under each header magic version start counts size number here _>>=_ tensor text textLooking shape lengthsOf lengthAt kindAndOffset blockOf
 two-tensors = refl
 
 -- 74 bytes, and the data after 96: 20 bytes and 6
-pub two-tensors-1 : wholeOf full 0 [] ([] ∷ [] ∷ []) tensors1 ≡ accepted (record { head = plain 1 2 74 96; entries = []; tensors = flat 20 0 5 0 20 ∷ flat 49 1 3 32 6 ∷ [] }) 74
-unfolding run under each header magic version start counts size number here _>>=_ tensor text textLooking shape lengthsOf lengthAt stored blockOf
+pub two-tensors-1 : readerRun full 0 [] ([] ∷ [] ∷ []) tensors1 ≡ accepted (record { head = plain 1 2 74 96; entries = []; tensors = flat 20 0 5 0 20 ∷ flat 49 1 3 32 6 ∷ [] }) 74
+unfolding run under each header magic version start counts size number here _>>=_ tensor text textLooking shape lengthsOf lengthAt kindAndOffset blockOf
 two-tensors-1 = refl
 
 -- one row is too few, and the place is that of the count
-pub one-row : wholeOf full 0 [] ([] ∷ []) tensors3 ≡ refused 6 8
+pub one-row : readerRun full 0 [] ([] ∷ []) tensors3 ≡ refused 6 8
 unfolding run under each header magic version start counts size number here _>>=_
 one-row = refl
 
 -- a byte less, and the last offset is not wholly there
-pub a-byte-less : wholeOf full 0 [] ([] ∷ [] ∷ []) (take 89 tensors3) ≡ refused 1 82
-unfolding run under each header magic version start counts size number here _>>=_ tensor text textLooking shape lengthsOf lengthAt stored blockOf
+pub a-byte-less : readerRun full 0 [] ([] ∷ [] ∷ []) (take 89 tensors3) ≡ refused 1 82
+unfolding run under each header magic version start counts size number here _>>=_ tensor text textLooking shape lengthsOf lengthAt kindAndOffset blockOf
 a-byte-less = refl
 
 -- big end first, version 3, no records
-pub big-end : wholeOf full 0 [] [] (70 ∷ 85 ∷ 71 ∷ 71 ∷ 0 ∷ 0 ∷ 0 ∷ 3 ∷ 0 ∷ 0 ∷ 0 ∷ 0 ∷ 0 ∷ 0 ∷ 0 ∷ 0 ∷ 0 ∷ 0 ∷ 0 ∷ 0 ∷ 0 ∷ 0 ∷ 0 ∷ 0 ∷ [])
+pub big-end : readerRun full 0 [] [] (70 ∷ 85 ∷ 71 ∷ 71 ∷ 0 ∷ 0 ∷ 0 ∷ 3 ∷ 0 ∷ 0 ∷ 0 ∷ 0 ∷ 0 ∷ 0 ∷ 0 ∷ 0 ∷ 0 ∷ 0 ∷ 0 ∷ 0 ∷ 0 ∷ 0 ∷ 0 ∷ 0 ∷ [])
     ≡ accepted (record { head = record { version = 3; big = true; entries = 0; tensors = 0; alignment = 32; end = 24; start = 32 }; entries = []; tensors = [] }) 24
 unfolding run under each header magic version start counts size number here _>>=_
 big-end = refl
 
 -- version 3 with one entry: "general.alignment", of type u32, is 64
-pub own-alignment : wholeOf full 0 ([] ∷ []) []
+pub own-alignment : readerRun full 0 ([] ∷ []) []
     ((71 ∷ 71 ∷ 85 ∷ 70 ∷ 3 ∷ 0 ∷ 0 ∷ 0 ∷ 0 ∷ 0 ∷ 0 ∷ 0 ∷ 0 ∷ 0 ∷ 0 ∷ 0 ∷ 1 ∷ 0 ∷ 0 ∷ 0 ∷ 0 ∷ 0 ∷ 0 ∷ 0 ∷ 17 ∷ 0 ∷ 0 ∷ 0 ∷ 0 ∷ 0 ∷ 0 ∷ 0 ∷ []) ++
     (alignmentKey ++ (4 ∷ 0 ∷ 0 ∷ 0 ∷ 64 ∷ 0 ∷ 0 ∷ 0 ∷ [])))
     ≡ accepted (record {
       head = record { version = 3; big = false; entries = 1; tensors = 0; alignment = 64; end = 57; start = 64 };
-      entries = record { key = record { place = 32; len = 17 }; aligns = true; value = Single (U32 64) } ∷ [];
+      entries = record { key = record { place = 32; len = 17 }; «is_alignment» = true; value = Single (U32 64) } ∷ [];
       tensors = [];
     }) 57
 unfolding run under each header magic version start counts size number here _>>=_ entry key textLooking value type valueOf scalarWidth
@@ -115,19 +115,19 @@ own-alignment = refl
 
 -- The two tensors as a sheet.
 
-abbrev weight : ℕ → ℕ → ℕ → ℕ → Weight
-weight name k n o = record { name = name ∷ []; shape = record { dimensions = 1; first = n; second = 1; third = 1; fourth = 1 }; kind = k; offset = o }
+abbrev weight : ℕ → ℕ → ℕ → ℕ → TensorContent
+weight name k n o = contentOf (name ∷ []) (record { dimensions = 1; first = n; second = 1; third = 1; fourth = 1 }) k o
 
-abbrev two : Sheet
+abbrev two : Contents
 two = record { entries = []; tensors = weight 97 0 5 0 ∷ weight 98 1 3 32 ∷ [] }
 
 -- their bytes are those of the file, in both versions
 pub written3 : headerBytes (record { version = 3; big = false }) two ≡ tensors3
-unfolding headerBytes startBytes sizeBytes textBytes tensorBytes shapeBytes lengthBytes storedBytes typeBytes bytesOf little rows
+unfolding headerBytes startBytes sizeBytes textBytes tensorBytes shapeBytes lengthBytes kindAndOffsetBytes typeBytes bytesOf little bytesOfAll
 written3 = refl
 
 pub written1 : headerBytes (record { version = 1; big = false }) two ≡ tensors1
-unfolding headerBytes startBytes sizeBytes textBytes tensorBytes shapeBytes lengthBytes storedBytes typeBytes bytesOf little rows
+unfolding headerBytes startBytes sizeBytes textBytes tensorBytes shapeBytes lengthBytes kindAndOffsetBytes typeBytes bytesOf little bytesOfAll
 written1 = refl
 
 -- and they can be written, so that they read back from there
@@ -136,8 +136,8 @@ fits-shape n h =
     let one : (i : ℕ) → FitsLength 1 i 1 = λ i. record { within = omega arith; beyond = λ e. refl } in
     record { few = omega arith; first = record { within = h; beyond = λ e. absurd (omega arith) }; second = one 1; third = one 2; fourth = one 3 }
 
-pub fits-two : FitsSheet (record { entries = 0; tensors = 2 }) (record { version = 3; big = false }) two
-unfolding blockOf headerBytes startBytes sizeBytes textBytes tensorBytes shapeBytes lengthBytes storedBytes typeBytes bytesOf little rows
+pub fits-two : FitsContents (record { entries = 0; tensors = 2 }) (record { version = 3; big = false }) two
+unfolding blockOf headerBytes startBytes sizeBytes textBytes tensorBytes shapeBytes lengthBytes kindAndOffsetBytes typeBytes bytesOf little bytesOfAll
 fits-two = record {
   version = refl;
   entryCount = omega arith;
@@ -146,13 +146,13 @@ fits-two = record {
   tensorRoom = omega arith;
   entries = tt;
   tensors = (
-    record { name = omega arith; shape = fits-shape 5 (omega arith); kind = omega arith; offset = omega arith; known = refl; products = refl; size = refl; total = omega arith },
-    (record { name = omega arith; shape = fits-shape 3 (omega arith); kind = omega arith; offset = omega arith; known = refl; products = refl; size = refl; total = omega arith }, tt),
+    record { name = omega arith; shape = fits-shape 5 (omega arith); kind = omega arith; offset = omega arith; known = refl; products = refl; size = refl; measured = refl; total = omega arith },
+    (record { name = omega arith; shape = fits-shape 3 (omega arith); kind = omega arith; offset = omega arith; known = refl; products = refl; size = refl; measured = refl; total = omega arith }, tt),
   );
   start = omega arith;
 }
 
-pub two-back : (r : List ℕ) → seen (toldIn (tensors3 ++ r)) (wholeOf full 0 [] ([] ∷ [] ∷ []) (tensors3 ++ r))
+pub two-back : (r : List ℕ) → seen (summaryIn (tensors3 ++ r)) (readerRun full 0 [] ([] ∷ [] ∷ []) (tensors3 ++ r))
     ≡ accepted (record { dialect = record { version = 3; big = false }; sheet = two; alignment = 32; end = 90; start = 96 }) 90
-unfolding headerBytes startBytes sizeBytes textBytes tensorBytes shapeBytes lengthBytes storedBytes typeBytes bytesOf little rows
+unfolding headerBytes startBytes sizeBytes textBytes tensorBytes shapeBytes lengthBytes kindAndOffsetBytes typeBytes bytesOf little bytesOfAll
 two-back r = reader-back 0 [] ([] ∷ [] ∷ []) (record { version = 3; big = false }) two r fits-two

@@ -1,19 +1,23 @@
--- What the code's answers say, and the run that an answer and both tables come from.
+-- What the code's answers say, and what a whole call of a reader comes to: an answer and two tables, from one run.
 use Prim.Native.Nat.{ℕ}
+use mathlib.Core.Path.{_≡_}
 use mathlib.Core.List.{List}
 use lib.Dec.{leb}
 use lib.ListN.{length}
 use Rattle.reading.specs.Choice.{if_then_else_}
-use Rattle.reading.specs.Reading.{Answer, accepted, refused, run}
+use Rattle.reading.specs.Reading.{Answer, accepted, refused, run, seen}
+use Rattle.reading.specs.Each.{filled}
 use Rattle.reading.specs.Ceilings.{under}
 use Rattle.reading.specs.declared.Limits.{Limits}
 use Rattle.kinds.specs.Shape.{greatest}
+use Rattle.values.specs.Rows.{entryRow}
+use Rattle.tensors.specs.Rows.{tensorRow}
 use Rattle.layout.specs.Padding.{padded}
 use Rattle.start.specs.declared.Start.{Start}
 use Rattle.header.specs.declared.Header.{Header}
 use Rattle.header.specs.declared.HeaderRead.{HeaderRead}
 use Rattle.header.specs.declared.HeaderRead.the-variants.{Found as FoundHeader, Refused as NoHeader}
-use Rattle.header.specs.Format.{Whole, header, headerOf}
+use Rattle.header.specs.Format.{FullHeader, header, headerOf}
 
 -- a header, with the place after it
 abbrev pub asHeader : HeaderRead → Answer Header
@@ -21,9 +25,34 @@ asHeader (FoundHeader h) = accepted h (h .end)
 asHeader (NoHeader n p) = refused n p
 
 -- what is told of a header that ends at e, where the start of its data fits
-abbrev pub toldOf : Start → ℕ → ℕ → HeaderRead
-toldOf c a e = if leb (padded a e) greatest then FoundHeader (headerOf c a e) else NoHeader 18 e
+abbrev pub headerIfItFits : Start → ℕ → ℕ → HeaderRead
+headerIfItFits c a e = if leb (padded a e) greatest then FoundHeader (headerOf c a e) else NoHeader 18 e
 
--- the run that a reader's answer and both its tables come from: its ceilings, its cap, the tables as they were, and the bytes
-abbrev pub wholeOf : Limits → ℕ → List (List ℕ) → List (List ℕ) → List ℕ → Answer Whole
-wholeOf limits cap entries tensors s = run (under limits (header (record { entries = length entries; tensors = length tensors }) cap)) s 0
+-- the run that a call comes from: the reader's ceilings and cap, the tables as they were, and the bytes
+abbrev pub readerRun : Limits → ℕ → List (List ℕ) → List (List ℕ) → List ℕ → Answer FullHeader
+readerRun limits cap entries tensors s = run (under limits (header (record { entries = length entries; tensors = length tensors }) cap)) s 0
+
+-- what a call comes to: its answer, and both tables after it
+pub record Outcome : Type 0 where
+  pub answer : Answer Header
+  pub entries : List (List ℕ)
+  pub tensors : List (List ℕ)
+
+-- where the run accepted, the header, and a row for each record in front of each table; at a refusal, the tables as they were
+abbrev pub outcomeOf : List (List ℕ) → List (List ℕ) → Answer FullHeader → Outcome
+outcomeOf entries tensors r =
+    record {
+      answer = seen (λ w. w .head) r;
+      entries = filled entryRow entries (seen (λ w. w .entries) r);
+      tensors = filled tensorRow tensors (seen (λ w. w .tensors) r);
+    }
+
+-- what a reader with these ceilings, this cap and these tables makes of the bytes s
+abbrev pub readerOutcome : Limits → ℕ → List (List ℕ) → List (List ℕ) → List ℕ → Outcome
+readerOutcome limits cap entries tensors s = outcomeOf entries tensors (readerRun limits cap entries tensors s)
+
+-- a call came to o: it gave that answer, and left those tables
+pub record CameTo (o : Outcome) (gave : Answer Header) (entries tensors : List (List ℕ)) : Type 0 where
+  pub answer : gave ≡ o .answer
+  pub entryRows : entries ≡ o .entries
+  pub tensorRows : tensors ≡ o .tensors

@@ -6,64 +6,64 @@ use mathlib.Core.List.{List, _++_, map}
 use lib.ListN.{length}
 use Rattle.reading.specs.Choice.{if_then_else_}
 use Rattle.reading.specs.Each.{fold}
-use Rattle.reading.specs.Back.{rows, Along, All}
+use Rattle.reading.specs.Back.{bytesOfAll, Along, All}
 use Rattle.kinds.specs.Shape.{greatest}
 use Rattle.layout.specs.Padding.{padded}
 use Rattle.values.specs.declared.Dialect.{Dialect}
 use Rattle.values.specs.Format.{sizeWidth, isWord, alignmentKey, depth}
 use Rattle.scalars.specs.Scalars.{scalarOf, naturalOf}
-use Rattle.values.specs.Contents.{Content, one, word, list, Entered, entryBytes, enteredOf, FitsEntry}
-use Rattle.tensors.specs.Contents.{Weight, tensorBytes, weightOf, FitsTensor, totalWith}
+use Rattle.values.specs.Contents.{Content, aScalar, aText, anArray, EntryContent, entryBytes, entryContent, FitsEntry}
+use Rattle.tensors.specs.Contents.{TensorContent, tensorBytes, tensorContent, FitsTensor, totalWith}
 use Rattle.fields.specs.Bytes.{Within}
 use Rattle.start.specs.declared.Rooms.{Rooms}
 use Rattle.header.specs.declared.Header.{Header}
 use Rattle.start.specs.declared.Start.{Start}
 use Rattle.start.specs.Format.{knownVersion}
-use Rattle.header.specs.Format.{usable, Whole}
+use Rattle.header.specs.Format.{usable, FullHeader}
 use Rattle.start.specs.Contents.{startBytes}
 
 -- the entries and the tensors, in the order of the file
-pub record Sheet : Type 0 where
-  pub entries : List Entered
-  pub tensors : List Weight
+pub record Contents : Type 0 where
+  pub entries : List EntryContent
+  pub tensors : List TensorContent
 
 -- how many records there are
-abbrev pub startIn : Dialect → Sheet → Start
+abbrev pub startIn : Dialect → Contents → Start
 startIn k c = record { dialect = k; tensors = length (c .tensors); entries = length (c .entries) }
 
 -- a header
-unfoldable pub headerBytes : Dialect → Sheet → List ℕ
-headerBytes k c = startBytes (startIn k c) ++ rows (entryBytes k) (c .entries) ++ rows (tensorBytes k) (c .tensors)
+unfoldable pub headerBytes : Dialect → Contents → List ℕ
+headerBytes k c = startBytes (startIn k c) ++ bytesOfAll (entryBytes k) (c .entries) ++ bytesOfAll (tensorBytes k) (c .tensors)
 
 -- The alignment.
 
 -- the alignment that a value gives
-abbrev pub alignmentSaid : Content (suc depth) → ℕ
-alignmentSaid (one t v) = usable (naturalOf (scalarOf t v))
-alignmentSaid (word b) = 32
-alignmentSaid (list t l) = 32
+abbrev pub contentAlignment : Content (suc depth) → ℕ
+contentAlignment (aScalar t v) = usable (naturalOf (scalarOf t v))
+contentAlignment (aText b) = 32
+contentAlignment (anArray t l) = 32
 
 -- the alignment after an entry
-abbrev pub latestSaid : ℕ → Entered → ℕ
-latestSaid a e = if isWord alignmentKey (e .key) then alignmentSaid (e .said) else a
+abbrev pub latestContent : ℕ → EntryContent → ℕ
+latestContent a e = if isWord alignmentKey (e .key) then contentAlignment (e .value) else a
 
 -- the alignment: the last entry whose key is "general.alignment" decides
-abbrev pub alignmentIn : List Entered → ℕ
-alignmentIn es = fold latestSaid 32 es
+abbrev pub alignmentIn : List EntryContent → ℕ
+alignmentIn es = fold latestContent 32 es
 
 -- What a reader finds.
 
 -- all that is told of a header: its version and byte order, its sheet, its alignment, where it ends and where its data starts
-pub record Told : Type 0 where
+pub record Summary : Type 0 where
   pub dialect : Dialect
-  pub sheet : Sheet
+  pub sheet : Contents
   pub alignment : ℕ
   pub end : ℕ
   pub start : ℕ
 
 -- what is told of the header of a sheet
-abbrev pub told : Dialect → Sheet → Told
-told k c =
+abbrev pub summaryOf : Dialect → Contents → Summary
+summaryOf k c =
     record { dialect = k; sheet = c; alignment = alignmentIn (c .entries); end = length (headerBytes k c); start = padded (alignmentIn (c .entries)) (length (headerBytes k c)) }
 
 -- the version and byte order that a header tells
@@ -71,18 +71,18 @@ abbrev pub dialectIn : Header → Dialect
 dialectIn h = record { version = h .version; big = h .big }
 
 -- the version and byte order that were read
-abbrev pub dialectOf : Whole → Dialect
+abbrev pub dialectOf : FullHeader → Dialect
 dialectOf w = dialectIn (w .head)
 
 -- what was read, with what stands at its places
-abbrev pub sheetOf : List ℕ → Whole → Sheet
-sheetOf s w = record { entries = map (enteredOf (dialectOf w) s) (w .entries); tensors = map (weightOf s) (w .tensors) }
+abbrev pub contentsOf : List ℕ → FullHeader → Contents
+contentsOf s w = record { entries = map (entryContent (dialectOf w) s) (w .entries); tensors = map (tensorContent s) (w .tensors) }
 
-abbrev pub toldIn : List ℕ → Whole → Told
-toldIn s w = record { dialect = dialectOf w; sheet = sheetOf s w; alignment = w .head .alignment; end = w .head .end; start = w .head .start }
+abbrev pub summaryIn : List ℕ → FullHeader → Summary
+summaryIn s w = record { dialect = dialectOf w; sheet = contentsOf s w; alignment = w .head .alignment; end = w .head .end; start = w .head .start }
 
 -- What can be written: each number fits its field, there are rows for all records, and the start of the data fits 64 bits.
-pub record FitsSheet (rooms : Rooms) (k : Dialect) (c : Sheet) : Type 0 where
+pub record FitsContents (rooms : Rooms) (k : Dialect) (c : Contents) : Type 0 where
   pub version : knownVersion (k .version) ≡ true
   pub entryCount : Within (sizeWidth k) (length (c .entries))
   pub tensorCount : Within (sizeWidth k) (length (c .tensors))

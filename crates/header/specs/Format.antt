@@ -45,7 +45,7 @@ alignmentOf (Array a) = 32
 
 -- the alignment after an entry: the last "general.alignment" decides
 abbrev pub latest : ℕ → Entry → ℕ
-latest a e = if e .aligns then alignmentOf (e .value) else a
+latest a e = if e .«is_alignment» then alignmentOf (e .value) else a
 
 -- what is told of a header: its alignment is a, and it ends at e
 abbrev pub headerOf : Start → ℕ → ℕ → Header
@@ -53,13 +53,13 @@ headerOf c a e =
     record { version = c .dialect .version; big = c .dialect .big; entries = c .entries; tensors = c .tensors; alignment = a; end = e; start = padded a e }
 
 -- a header, its entries and its tensors
-pub record Whole : Type 0 where
+pub record FullHeader : Type 0 where
   pub head : Header
   pub entries : List Entry
   pub tensors : List Tensor
 
 -- the header, with the rows that there are and the cap of a tokenizer's arrays
-unfoldable pub header : Rooms → ℕ → Reading Whole
+unfoldable pub header : Rooms → ℕ → Reading FullHeader
 header rooms cap = do
   c ← start rooms
   es ← times (c .entries) (entry (c .dialect) cap)

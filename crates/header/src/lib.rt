@@ -4,8 +4,11 @@
 // allocated. The rows of a short list of entries are kept meanwhile, so that it is read once; a longer one is read twice.
 // Tensors are read twice, and the second time nothing is tested. `measure` checks a header and fills nothing.
 use fields::Number;
-use kinds::Whole;
+use kinds::Bounded;
 use reading::Limits;
+use rows::ENTRY_WORDS;
+use rows::EntryRow;
+use rows::TensorRow;
 use start::Rooms;
 use start::Start;
 use start::StartRead;
@@ -22,7 +25,7 @@ ghost use mathlib.Core.Bool.{true};
 ghost use mathlib.Core.List.{_++_};
 ghost use mathlib.Core.Path.{_≡_};
 ghost use Rattle.fields.specs.Value.{asNumber};
-ghost use Rattle.header.specs.Answers.{asHeader, toldOf, wholeOf};
+ghost use Rattle.header.specs.Answers.{asHeader, headerIfItFits, readerOutcome, CameTo};
 ghost use Rattle.header.specs.Steps.{Keeps};
 ghost use Rattle.reading.specs.Ceilings.{under};
 ghost use Rattle.reading.specs.Each.{each, filled, fold, times};
@@ -94,7 +97,7 @@ pub fn alignment_of(value: Value) -> u64
 fn latest(alignment: u64, entry: Entry) -> u64
     ensures { λ r. ⌜ r ≡ format.latest alignment entry ⌝ }
 {
-    if entry.aligns {
+    if entry.is_alignment {
         let v = entry.value;
         alignment_of(v)
     } else {
@@ -156,7 +159,7 @@ fn list_entries(
     n: usize,
     dialect: Dialect,
     cap: u64,
-    rows: &mut [[u64; 7]],
+    rows: &mut [EntryRow],
 ) -> Number
     requires { ⌜ n ≤ length (now rows) ⌝ }
     ensures { λ r. ⌜ asNumber r ≡ seen (fold format.latest 32) (run (times n (entry dialect cap)) (now (s .entry)) at) ⌝ }
@@ -191,7 +194,7 @@ fn test_entries(
     n: u64,
     dialect: Dialect,
     cap: u64,
-    kept: &mut [[u64; 7]],
+    kept: &mut [EntryRow],
 ) -> Number
     ensures { λ r. ⌜ asNumber r ≡ seen (fold format.latest 32) (run (times n (entry dialect cap)) (now (s .entry)) at) ⌝ }
     ensures { λ r. ⌜ Keeps n (now (kept .exit)) (run (times n (entry dialect cap)) (now (s .entry)) at) ⌝ }
@@ -204,7 +207,7 @@ fn test_entries(
 }
 
 // The first n rows of a table, at the front of another.
-fn copy_rows(n: usize, from: &[[u64; 7]], to: &mut [[u64; 7]])
+fn copy_rows(n: usize, from: &[EntryRow], to: &mut [EntryRow])
     requires { ⌜ (n ≤ length (now from)) × (n ≤ length (now to)) ⌝ }
     ensures { λ r. ⌜ now (to .exit) ≡ take n (now (from .entry)) ++ drop n (now (to .entry)) ⌝ }
 {
@@ -222,8 +225,8 @@ fn fill_entries(
     n: usize,
     dialect: Dialect,
     cap: u64,
-    kept: &[[u64; 7]],
-    rows: &mut [[u64; 7]],
+    kept: &[EntryRow],
+    rows: &mut [EntryRow],
 )
     requires { ⌜ n ≤ length (now rows) ⌝ }
     requires { ⌜ isAccepted (run (times n (entry dialect cap)) (now s) at) ≡ true ⌝ }
@@ -238,7 +241,7 @@ fn fill_entries(
 }
 
 // Writes the rows of n tensors that are all there. It tests nothing again.
-fn fill_tensors(s: &[u8], at: usize, n: usize, dialect: Dialect, rows: &mut [[u64; 10]])
+fn fill_tensors(s: &[u8], at: usize, n: usize, dialect: Dialect, rows: &mut [TensorRow])
     requires { ⌜ n ≤ length (now rows) ⌝ }
     requires { ⌜ isAccepted (run (each (tensor dialect) totalOf n 0) (now s) at) ≡ true ⌝ }
     ensures { λ r. ⌜ now (rows .exit) ≡ filled tensorRow (now (rows .entry)) (run (each (tensor dialect) totalOf n 0) (now (s .entry)) at) ⌝ }
@@ -246,30 +249,30 @@ fn fill_tensors(s: &[u8], at: usize, n: usize, dialect: Dialect, rows: &mut [[u6
     let mut from = at;
     let mut i: usize = 0;
     while i < n {
-        let name = tensors::name_again(s, from, dialect);
+        let name = tensors::known_name(s, from, dialect);
         let p = name.place + name.len;
         // The order is a constant in each call, so that the compiler makes a body for each.
         let found = if dialect.big {
-            tensors::rest_again(s, p, true)
+            tensors::known_after_name(s, p, true)
         } else {
-            tensors::rest_again(s, p, false)
+            tensors::known_after_name(s, p, false)
         };
-        rows[i] = tensors::row_again(name, found);
+        rows[i] = tensors::known_row(name, found);
         from = found.next;
         i += 1;
     }
 }
 
 // What is told of a header that ends at end: its data starts at the next multiple of its alignment.
-fn told(start: Start, alignment: u64, end: usize) -> HeaderRead
-    ensures { λ r. ⌜ r ≡ toldOf start alignment end ⌝ }
+fn header_if_it_fits(start: Start, alignment: u64, end: usize) -> HeaderRead
+    ensures { λ r. ⌜ r ≡ headerIfItFits start alignment end ⌝ }
 {
     match layout::pad(alignment, end as u64) {
-        Whole::Over => HeaderRead::Refused {
+        Bounded::Over => HeaderRead::Refused {
             why: 18,
             place: end,
         },
-        Whole::Fits { value } => {
+        Bounded::Fits { value } => {
             let dialect = start.dialect;
             HeaderRead::Found {
                 header: Header {
@@ -301,7 +304,7 @@ pub fn measure(s: &[u8], limits: Limits, cap: u64, rooms: Rooms) -> HeaderRead
                     next: q,
                 } => match pass_tensors(s, q, start.tensors, dialect, limits) {
                     Passed::Refused { why, place } => HeaderRead::Refused { why, place },
-                    Passed::To { next: end } => told(start, alignment, end),
+                    Passed::To { next: end } => header_if_it_fits(start, alignment, end),
                 },
             }
         }
@@ -315,9 +318,9 @@ fn fill(
     q: usize,
     start: Start,
     cap: u64,
-    kept: &[[u64; 7]],
-    entries: &mut [[u64; 7]],
-    tensors: &mut [[u64; 10]],
+    kept: &[EntryRow],
+    entries: &mut [EntryRow],
+    tensors: &mut [TensorRow],
 )
     requires { ⌜ (start .entries ≤ length (now entries)) × (start .tensors ≤ length (now tensors)) ⌝ }
     requires { ⌜ isAccepted (run (times (start .entries) (entry (start .dialect) cap)) (now s) p) ≡ true ⌝ }
@@ -336,12 +339,10 @@ pub fn read(
     s: &[u8],
     limits: Limits,
     cap: u64,
-    entries: &mut [[u64; 7]],
-    tensors: &mut [[u64; 10]],
+    entries: &mut [EntryRow],
+    tensors: &mut [TensorRow],
 ) -> HeaderRead
-    ensures { λ r. ⌜ asHeader r ≡ seen (λ w. w .head) (wholeOf limits cap (now (entries .entry)) (now (tensors .entry)) (now (s .entry))) ⌝ }
-    ensures { λ r. ⌜ now (entries .exit) ≡ filled entryRow (now (entries .entry)) (seen (λ w. w .entries) (wholeOf limits cap (now (entries .entry)) (now (tensors .entry)) (now (s .entry)))) ⌝ }
-    ensures { λ r. ⌜ now (tensors .exit) ≡ filled tensorRow (now (tensors .entry)) (seen (λ w. w .tensors) (wholeOf limits cap (now (entries .entry)) (now (tensors .entry)) (now (s .entry)))) ⌝ }
+    ensures { λ r. ⌜ CameTo (readerOutcome limits cap (now (entries .entry)) (now (tensors .entry)) (now (s .entry))) (asHeader r) (now (entries .exit)) (now (tensors .exit)) ⌝ }
 {
     let rooms = Rooms {
         entries: entries.len() as u64,
@@ -350,7 +351,7 @@ pub fn read(
     match start::read_start(s, limits, rooms) {
         StartRead::Refused { why, place } => HeaderRead::Refused { why, place },
         StartRead::Found { start, next: p } => {
-            let mut kept = [[0u64; 7]; KEPT];
+            let mut kept = [[0u64; ENTRY_WORDS]; KEPT];
             match test_entries(s, p, start.entries, start.dialect, cap, &mut kept) {
                 Number::Refused { why, place } => HeaderRead::Refused { why, place },
                 Number::Value {
@@ -358,7 +359,7 @@ pub fn read(
                     next: q,
                 } => match pass_tensors(s, q, start.tensors, start.dialect, limits) {
                     Passed::Refused { why, place } => HeaderRead::Refused { why, place },
-                    Passed::To { next: end } => match told(start, alignment, end) {
+                    Passed::To { next: end } => match header_if_it_fits(start, alignment, end) {
                         HeaderRead::Refused { why, place } => HeaderRead::Refused { why, place },
                         HeaderRead::Found { header } => {
                             fill(s, p, q, start, cap, &kept, entries, tensors);

@@ -3,17 +3,17 @@
 use Prim.Native.Nat.{_-_, _^_}
 use mathlib.Core.Path.{_≡_, refl}
 use mathlib.Core.List.{[], _∷_}
-use Rattle.kinds.specs.declared.Whole.the-variants.{Fits, Over}
+use Rattle.kinds.specs.declared.Bounded.the-variants.{Fits, Over}
 use Rattle.kinds.specs.declared.Measure.the-variants.{Bytes, Refused}
 use Rattle.kinds.specs.Table.{blockOf}
-use Rattle.kinds.specs.Shape.{wholeOf, measureOf}
+use Rattle.kinds.specs.Shape.{boundedProduct, measureOf}
 
 -- a product on the way is too great, though the last is 0
-over-before-zero : wholeOf (2 ^ 32 ∷ 2 ^ 32 ∷ 0 ∷ 1 ∷ []) ≡ Over
+over-before-zero : boundedProduct (2 ^ 32 ∷ 2 ^ 32 ∷ 0 ∷ 1 ∷ []) ≡ Over
 over-before-zero = refl
 
 -- from the left each product is 0
-zero-first : wholeOf (0 ∷ 2 ^ 32 ∷ 2 ^ 32 ∷ 1 ∷ []) ≡ Fits 0
+zero-first : boundedProduct (0 ∷ 2 ^ 32 ∷ 2 ^ 32 ∷ 1 ∷ []) ≡ Fits 0
 zero-first = refl
 
 -- 33 numbers in blocks of 32, of 18 bytes each: a part of a block is rounded down to whole bytes

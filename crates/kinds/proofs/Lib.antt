@@ -1,4 +1,4 @@
-pub mod Rows
+pub mod KindTable
 pub mod Products
 pub mod Measures
 pub mod Answers

@@ -9,10 +9,10 @@ use native.Mathlib.Nat.{mul-comm}
 use lib.Dec.{leb}
 use borrow.Author.Tests.{leb-true, lt-ltb}
 use Rattle.kinds.specs.declared.Block.{Block}
-use Rattle.kinds.specs.declared.Whole.the-variants.{Fits, Over}
+use Rattle.kinds.specs.declared.Bounded.the-variants.{Fits, Over}
 use Rattle.kinds.specs.declared.Measure.the-variants.{Bytes, Refused}
 use Rattle.kinds.specs.Table.{blockOf, knownKind}
-use Rattle.kinds.specs.Shape.{greatest, productOf, productsFit, wholeOf, measureOf}
+use Rattle.kinds.specs.Shape.{greatest, productOf, productsFit, boundedProduct, measureOf}
 use Rattle.kinds.proofs.Products.{fitted, answered, refused}
 
 -- n numbers in blocks of the kind k, each of b bytes: whether their bytes fit
@@ -33,14 +33,14 @@ module _ (s : List ℕ) (k : ℕ) {a : Block} (is : a ≡ blockOf k) where
   known some = let h : 0 < a .numbers = omega arith in lt-ltb 0 (blockOf k .numbers) (rw is at h)
 
   -- then a product does not fit
-  pub no-product : (a .numbers ≡ 0 → ⊥) → Over ≡ wholeOf s → Refused 13 ≡ measureOf s k
+  pub no-product : (a .numbers ≡ 0 → ⊥) → Over ≡ boundedProduct s → Refused 13 ≡ measureOf s k
   no-product some e = rw (known some, refused (productsFit s) (productOf s) e)
 
 -- the kind is known, and n is the product
 pub record Passed (s : List ℕ) (k : ℕ) (a : Block) (n : ℕ) : Type 0 where
   pub is : a ≡ blockOf k
   pub some : a .numbers ≡ 0 → ⊥
-  pub fits : Fits n ≡ wholeOf s
+  pub fits : Fits n ≡ boundedProduct s
 
 module _ {s : List ℕ} {k : ℕ} {a : Block} {n : ℕ} (passed : Passed s k a n) where
   -- then the bytes do not fit, or they do

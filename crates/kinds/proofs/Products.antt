@@ -16,9 +16,9 @@ use denote.Plain.{UInt}
 use denote.Shadow.{shadow}
 use denote.Array.{Array, each}
 use Rattle.reading.specs.Choice.{if_then_else_}
-use Rattle.kinds.specs.declared.Whole.{Whole}
-use Rattle.kinds.specs.declared.Whole.the-variants.{Fits, Over}
-use Rattle.kinds.specs.Shape.{greatest, productFrom, productsFitFrom, wholeOf}
+use Rattle.kinds.specs.declared.Bounded.{Bounded}
+use Rattle.kinds.specs.declared.Bounded.the-variants.{Fits, Over}
+use Rattle.kinds.specs.Shape.{greatest, productFrom, productsFitFrom, boundedProduct}
 
 -- a product is too great, or fits, as the quotient says
 pub too-great : (a b : ℕ) → 0 < b → greatest / b < a → greatest < a * b
@@ -47,11 +47,11 @@ refused true n e = let z : _≡_ {A = ℕ} 0 1 = cc in absurd (omega arith)
 refused false n e = refl
 
 -- what is answered of a number
-abbrev pub fitted : ℕ → Whole
+abbrev pub fitted : ℕ → Bounded
 fitted n = if leb n greatest then Fits n else Over
 
 -- what is answered of x times each length
-abbrev wholeFrom : ℕ → List ℕ → Whole
+abbrev wholeFrom : ℕ → List ℕ → Bounded
 wholeFrom x l = if productsFitFrom x l then Fits (productFrom x l) else Over
 
 module _ (x n : ℕ) (l : List ℕ) where
@@ -70,7 +70,7 @@ ends x n = ends-by (leb (x * n) greatest) (x * n)
 
 -- four lengths of which the first fits are multiplied from the first on
 pub record Lengths (s : List ℕ) : Type 0 where
-  pub begins : wholeFrom (getD s 0 0) (getD s 1 0 ∷ getD s 2 0 ∷ getD s 3 0 ∷ []) ≡ wholeOf s
+  pub begins : wholeFrom (getD s 0 0) (getD s 1 0 ∷ getD s 2 0 ∷ getD s 3 0 ∷ []) ≡ boundedProduct s
 
 first-fits : (x : ℕ) (xs : List ℕ) (us : List Val) → shadow (each ℕ (UInt w64 .own) (x ∷ xs) us) → x ≤ greatest
 first-fits x xs [] s = absurd s
@@ -89,15 +89,15 @@ lengths (a ∷ b ∷ c ∷ d ∷ e ∷ l) vs p = absurd (omega (arith, p .1 .0 .
 
 -- what is answered where a product does not fit, and where all do
 module _ {s : List ℕ} (four : Lengths s) where
-  pub no-plane : Over ≡ fitted (getD s 0 0 * getD s 1 0) → Over ≡ wholeOf s
+  pub no-plane : Over ≡ fitted (getD s 0 0 * getD s 1 0) → Over ≡ boundedProduct s
   no-plane e = stops (getD s 0 0) (getD s 1 0) (getD s 2 0 ∷ getD s 3 0 ∷ []) e ∙ four .begins
 
   module _ {plane : ℕ} (e : Fits plane ≡ fitted (getD s 0 0 * getD s 1 0)) where
-    from-plane : wholeFrom plane (getD s 2 0 ∷ getD s 3 0 ∷ []) ≡ wholeOf s
+    from-plane : wholeFrom plane (getD s 2 0 ∷ getD s 3 0 ∷ []) ≡ boundedProduct s
     from-plane = goes-on (getD s 0 0) (getD s 1 0) (getD s 2 0 ∷ getD s 3 0 ∷ []) e ∙ four .begins
 
-    pub no-solid : Over ≡ fitted (plane * getD s 2 0) → Over ≡ wholeOf s
+    pub no-solid : Over ≡ fitted (plane * getD s 2 0) → Over ≡ boundedProduct s
     no-solid f = stops plane (getD s 2 0) (getD s 3 0 ∷ []) f ∙ from-plane
 
-    pub whole : {solid : ℕ} → Fits solid ≡ fitted (plane * getD s 2 0) → fitted (solid * getD s 3 0) ≡ wholeOf s
+    pub whole : {solid : ℕ} → Fits solid ≡ fitted (plane * getD s 2 0) → fitted (solid * getD s 3 0) ≡ boundedProduct s
     whole {solid} f = ends solid (getD s 3 0) ∙ goes-on plane (getD s 2 0) (getD s 3 0 ∷ []) f ∙ from-plane

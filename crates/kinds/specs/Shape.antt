@@ -4,8 +4,8 @@ use mathlib.Core.Bool.{Bool, true, false}
 use mathlib.Core.List.{List, [], _∷_}
 use lib.Dec.{leb}
 use Rattle.reading.specs.Choice.{if_then_else_}
-use Rattle.kinds.specs.declared.Whole.{Whole}
-use Rattle.kinds.specs.declared.Whole.the-variants.{Fits, Over}
+use Rattle.kinds.specs.declared.Bounded.{Bounded}
+use Rattle.kinds.specs.declared.Bounded.the-variants.{Fits, Over}
 use Rattle.kinds.specs.declared.Measure.{Measure}
 use Rattle.kinds.specs.declared.Measure.the-variants.{Bytes, Refused}
 use Rattle.kinds.specs.Table.{blockOf, knownKind}
@@ -45,8 +45,8 @@ abbrev pub sizeOf : List ℕ → ℕ → ℕ
 sizeOf shape k = bytesBefore shape k / blockOf k .numbers
 
 -- what `product` answers
-abbrev pub wholeOf : List ℕ → Whole
-wholeOf shape = if productsFit shape then Fits (productOf shape) else Over
+abbrev pub boundedProduct : List ℕ → Bounded
+boundedProduct shape = if productsFit shape then Fits (productOf shape) else Over
 
 -- what `size` answers: an unknown kind first, then the products, then the size
 abbrev pub measureOf : List ℕ → ℕ → Measure

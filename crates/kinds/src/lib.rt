@@ -5,8 +5,8 @@ ghost use Prim.Native.Nat.{_*_, _/_, _≤_, _<_};
 ghost use lib.Dec.{leb};
 ghost use Rattle.reading.specs.Choice.{if_then_else_};
 ghost use Rattle.kinds.specs.Table.{block, blockOf, knownKind, writtenKind};
-ghost use Rattle.kinds.specs.Shape.{greatest, productOf, productsFit, wholeOf, measureOf};
-ghost use Rattle.kinds.specs.declared.Whole.the-variants.{Fits, Over};
+ghost use Rattle.kinds.specs.Shape.{greatest, productOf, productsFit, boundedProduct, measureOf};
+ghost use Rattle.kinds.specs.declared.Bounded.the-variants.{Fits, Over};
 
 // How many numbers a block of a kind holds, and how many bytes it takes. A block of no numbers: there is no such kind.
 pub struct Block {
@@ -15,7 +15,7 @@ pub struct Block {
 }
 
 // A product that fits 64 bits, or one that does not.
-pub enum Whole {
+pub enum Bounded {
     Fits { value: u64 },
     Over,
 }
@@ -103,27 +103,27 @@ pub fn is_written(kind: u64) -> bool
 }
 
 // The product of two numbers, where it fits. It is made where one factor is 0 or 1, or after a division has shown that it fits.
-fn times(a: u64, b: u64) -> Whole
+fn times(a: u64, b: u64) -> Bounded
     ensures { λ r. ⌜ r ≡ (if leb (a * b) greatest then Fits (a * b) else Over) ⌝ }
 {
     if b < 2 {
-        return Whole::Fits { value: a * b };
+        return Bounded::Fits { value: a * b };
     }
     if GREATEST / b < a {
-        return Whole::Over;
+        return Bounded::Over;
     }
-    Whole::Fits { value: a * b }
+    Bounded::Fits { value: a * b }
 }
 
 // The product of a shape's lengths, from the left: each product on the way must fit.
-pub fn product(shape: [u64; 4]) -> Whole
-    ensures { λ r. ⌜ r ≡ wholeOf shape ⌝ }
+pub fn product(shape: [u64; 4]) -> Bounded
+    ensures { λ r. ⌜ r ≡ boundedProduct shape ⌝ }
 {
-    let Whole::Fits { value: plane } = times(shape[0], shape[1]) else {
-        return Whole::Over;
+    let Bounded::Fits { value: plane } = times(shape[0], shape[1]) else {
+        return Bounded::Over;
     };
-    let Whole::Fits { value: solid } = times(plane, shape[2]) else {
-        return Whole::Over;
+    let Bounded::Fits { value: solid } = times(plane, shape[2]) else {
+        return Bounded::Over;
     };
     times(solid, shape[3])
 }
@@ -144,8 +144,8 @@ pub fn fits(numbers: u64, kind: u64) -> bool
         return true;
     }
     match times(type_size(kind), numbers) {
-        Whole::Fits { value: _ } => true,
-        Whole::Over => false,
+        Bounded::Fits { value: _ } => true,
+        Bounded::Over => false,
     }
 }
 
@@ -168,7 +168,7 @@ pub fn size(shape: [u64; 4], kind: u64) -> Measure
     if block.numbers == 0 {
         return Measure::Refused { why: 11 };
     }
-    let Whole::Fits { value: numbers } = product(shape) else {
+    let Bounded::Fits { value: numbers } = product(shape) else {
         return Measure::Refused { why: 13 };
     };
     if fits(numbers, kind) {

@@ -8,7 +8,7 @@ use lib.Dec.{leb}
 use borrow.Author.Tests.{le-leb, lt-leb, leb-true}
 use Rattle.kinds.specs.Table.{writtenKind}
 use Rattle.kinds.specs.Shape.{greatest, productOf, productsFit, sizeFits, sizeOf}
-use Rattle.kinds.specs.declared.Whole.the-variants.{Fits, Over}
+use Rattle.kinds.specs.declared.Bounded.the-variants.{Fits, Over}
 use Rattle.kinds.proofs.Products.{answered, refused}
 use Rattle.kinds.proofs.Answers.{Sized, Unsized, no-product, no-size}
 use Rattle.layout.specs.Padding.{padded, paddedOf}

@@ -3,13 +3,13 @@ use Prim.Native.Nat.{ℕ, _+_, _-_, _*_, _/_}
 use lib.Dec.{leb, eqb}
 use Rattle.reading.specs.Choice.{if_then_else_}
 use Rattle.kinds.specs.Shape.{greatest}
-use Rattle.kinds.specs.declared.Whole.{Whole}
-use Rattle.kinds.specs.declared.Whole.the-variants.{Fits, Over}
+use Rattle.kinds.specs.declared.Bounded.{Bounded}
+use Rattle.kinds.specs.declared.Bounded.the-variants.{Fits, Over}
 
 -- the least multiple of a that is not below n; n itself where a is 0
 abbrev pub padded : ℕ → ℕ → ℕ
 padded a n = if eqb a 0 then n else (n + (a - 1)) / a * a
 
 -- what `pad` answers
-abbrev pub paddedOf : ℕ → ℕ → Whole
+abbrev pub paddedOf : ℕ → ℕ → Bounded
 paddedOf a n = if leb (padded a n) greatest then Fits (padded a n) else Over

@@ -1,6 +1,6 @@
 // Where the data of tensors goes: offsets that are multiples of an alignment.
 use kinds::Measure;
-use kinds::Whole;
+use kinds::Bounded;
 ghost use mathlib.Core.Path.{_≡_};
 ghost use Rattle.layout.specs.Padding.{paddedOf};
 ghost use Rattle.layout.specs.Layout.{placeOf};
@@ -21,21 +21,21 @@ pub enum Placed {
 }
 
 // The least multiple of an alignment that is not below n, where it fits 64 bits. Of no alignment it is n.
-pub fn pad(alignment: u64, n: u64) -> Whole
+pub fn pad(alignment: u64, n: u64) -> Bounded
     ensures { λ r. ⌜ r ≡ paddedOf alignment n ⌝ }
 {
     if alignment == 0 {
-        return Whole::Fits { value: n };
+        return Bounded::Fits { value: n };
     }
     let past = n % alignment;
     if past == 0 {
-        return Whole::Fits { value: n };
+        return Bounded::Fits { value: n };
     }
     let gap = alignment - past;
     if GREATEST - n < gap {
-        return Whole::Over;
+        return Bounded::Over;
     }
-    Whole::Fits { value: n + gap }
+    Bounded::Fits { value: n + gap }
 }
 
 // The place of the next tensor, after what is laid: its kind, its products, its size, the sum of products, and its end with the padding are tested in this order.
@@ -55,7 +55,7 @@ pub fn place(laid: Laid, shape: [u64; 4], kind: u64, alignment: u64) -> Placed
                 return Placed::Refused { why: 36 };
             }
             let end = laid.next + size;
-            let Whole::Fits { value: next } = pad(alignment, end) else {
+            let Bounded::Fits { value: next } = pad(alignment, end) else {
                 return Placed::Refused { why: 36 };
             };
             let total = laid.total + product;

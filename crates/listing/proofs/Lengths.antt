@@ -7,7 +7,7 @@ use lib.Dec.{ltb}
 use lib.ListN.{take, getD}
 use lib.Seq.{take-all}
 use borrow.Author.Tests.{lt-ltb}
-use Rattle.reading.specs.Back.{rows}
+use Rattle.reading.specs.Back.{bytesOfAll}
 use Rattle.reading.specs.Choice.{if_then_else_}
 use Rattle.listing.specs.Text.{decimal, labelled, furtherText, lengthsText, lengthsIn}
 
@@ -20,7 +20,7 @@ module _ (p q r t : ℕ) where
       ++ (if ltb 3 d then labelled (120 ∷ []) t else [])
 
   split : (d : ℕ) → stated d ≡ lengthsText (take d (p ∷ q ∷ r ∷ t ∷ []))
-  unfolding lengthsText furtherText rows
+  unfolding lengthsText furtherText bytesOfAll
   split zero = refl
   split (suc zero) = simp append-nil refl
   split (suc (suc zero)) = simp (append-assoc, append-nil) refl

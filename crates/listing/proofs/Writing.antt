@@ -6,7 +6,7 @@ use native.Mathlib.Numerals.{add-one}
 use lib.ListN.{length, drop, getD, drop-of-length-le}
 use lib.Seq.{drop-cons}
 use borrow.Rule.Slice.PartMut.{midOf, putMid}
-use Rattle.reading.specs.Back.{rows}
+use Rattle.reading.specs.Back.{bytesOfAll}
 use Rattle.listing.specs.Text.{Put}
 use Rattle.listing.proofs.Put.{put-chain, put-none, put-same}
 
@@ -28,17 +28,17 @@ pub writing-ends : {whole rest old out : List ℕ} {n : ℕ} → Writing whole r
 writing-ends w s = put-same (sym (append-nil (w .piece)) ∙ ap (λ r. w .piece ++ r) (sym s) ∙ w .left) (w .put)
 
 -- lines in a row: the next one, and those after it
-pub one-line : {l more : List (List ℕ)} {row : List ℕ} (line : List ℕ → List ℕ) → l ≡ row ∷ more → rows line l ≡ line row ++ rows line more
-unfolding rows
+pub one-line : {l more : List (List ℕ)} {row : List ℕ} (line : List ℕ → List ℕ) → l ≡ row ∷ more → bytesOfAll line l ≡ line row ++ bytesOfAll line more
+unfolding bytesOfAll
 one-line line e = rw e refl
 
-pub no-lines : {l : List (List ℕ)} (line : List ℕ → List ℕ) → l ≡ [] → rows line l ≡ []
-unfolding rows
+pub no-lines : {l : List (List ℕ)} (line : List ℕ → List ℕ) → l ≡ [] → bytesOfAll line l ≡ []
+unfolding bytesOfAll
 no-lines line e = rw e refl
 
 -- a row of a table more, and no row more
-pub rows-turn : (line : List ℕ → List ℕ) (l : List (List ℕ)) (i : ℕ) → i < length l → rows line (drop i l) ≡ line (getD l i []) ++ rows line (drop (i + 1) l)
+pub rows-turn : (line : List ℕ → List ℕ) (l : List (List ℕ)) (i : ℕ) → i < length l → bytesOfAll line (drop i l) ≡ line (getD l i []) ++ bytesOfAll line (drop (i + 1) l)
 rows-turn line l i h = one-line line (drop-cons l i [] h ∙ ap (λ k. getD l i [] ∷ drop k l) (sym (add-one i)))
 
-pub rows-end : (line : List ℕ → List ℕ) (l : List (List ℕ)) (i : ℕ) → length l ≤ i → rows line (drop i l) ≡ []
+pub rows-end : (line : List ℕ → List ℕ) (l : List (List ℕ)) (i : ℕ) → length l ≤ i → bytesOfAll line (drop i l) ≡ []
 rows-end line l i h = no-lines line (drop-of-length-le l {i = i} h)

@@ -5,7 +5,7 @@ use mathlib.Core.List.{List, [], _∷_, _++_, map}
 use lib.Dec.{ltb}
 use lib.ListN.{length, take, getD}
 use Rattle.reading.specs.Choice.{if_then_else_}
-use Rattle.reading.specs.Back.{rows}
+use Rattle.reading.specs.Back.{bytesOfAll}
 use Rattle.fields.specs.Bytes.{Wrote}
 use Rattle.reading.specs.Ceilings.{under, full}
 use Rattle.reading.specs.Reading.{Answer, accepted, refused, run}
@@ -13,7 +13,7 @@ use Rattle.values.specs.Rows.{entryRow}
 use Rattle.tensors.specs.Rows.{tensorRow}
 use Rattle.header.specs.declared.Header.{Header}
 use Rattle.start.specs.declared.Rooms.{Rooms}
-use Rattle.header.specs.Format.{Whole, header}
+use Rattle.header.specs.Format.{FullHeader, header}
 use Rattle.listing.specs.Order.{nameIn, ordered}
 
 -- a writer put a text at the front of its output, n bytes of it: all, or as many as there was room for; the output after them is as it was
@@ -68,7 +68,7 @@ keyLine s row = (107 ∷ 101 ∷ 121 ∷ 32 ∷ []) ++ nameIn s row ++ labelled 
 
 -- further lengths, each after an "x"
 unfoldable pub furtherText : List ℕ → List ℕ
-furtherText lengths = rows (labelled (120 ∷ [])) lengths
+furtherText lengths = bytesOfAll (labelled (120 ∷ [])) lengths
 
 -- lengths joined by "x", and "-" where there are none
 unfoldable pub lengthsText : List ℕ → List ℕ
@@ -93,10 +93,10 @@ refusalLine n p = labelled (114 ∷ 101 ∷ 102 ∷ 117 ∷ 115 ∷ 101 ∷ 100 
 
 -- all lines of a header: the first, one for each distinct key in byte order, one for each tensor
 unfoldable pub linesOf : List ℕ → Header → List (List ℕ) → List (List ℕ) → List ℕ
-linesOf s h entries tensors = headLine h ++ rows (keyLine s) (ordered s entries) ++ rows (tensorLine s) tensors
+linesOf s h entries tensors = headLine h ++ bytesOfAll (keyLine s) (ordered s entries) ++ bytesOfAll (tensorLine s) tensors
 
 -- the text of what a reader answers: all lines of the header, or the refusal's alone
-unfoldable pub textOf : List ℕ → Answer Whole → List ℕ
+unfoldable pub textOf : List ℕ → Answer FullHeader → List ℕ
 textOf s (accepted w q) = linesOf s (w .head) (map entryRow (w .entries)) (map tensorRow (w .tensors))
 textOf s (refused n p) = refusalLine n p
 

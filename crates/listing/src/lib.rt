@@ -12,14 +12,14 @@ ghost use mathlib.Core.List.{[], _∷_};
 ghost use lib.ListN.{length, drop};
 ghost use lib.Dec.{ltb};
 ghost use Rattle.reading.specs.Choice.{if_then_else_};
-ghost use Rattle.reading.specs.Back.{rows};
+ghost use Rattle.reading.specs.Back.{bytesOfAll};
 ghost use Rattle.reading.specs.Each.{filled};
 ghost use Rattle.reading.specs.Reading.{seen};
 ghost use Rattle.values.specs.Rows.{entryRow};
 ghost use Rattle.tensors.specs.Rows.{tensorRow};
 ghost use Rattle.values.specs.Contents.{insideOf};
 ghost use Rattle.reading.specs.Ceilings.{full};
-ghost use Rattle.header.specs.Answers.{wholeOf};
+ghost use Rattle.header.specs.Answers.{readerRun};
 ghost use Rattle.listing.specs.Order as order;
 ghost use Rattle.listing.specs.Text as text;
 
@@ -260,7 +260,7 @@ pub fn next_key(s: &[u8], entries: &[[u64; 7]], last: NextKey) -> NextKey
 
 // The lines of the keys. There are no more of them than rows.
 fn put_keys(out: &mut [u8], s: &[u8], entries: &[[u64; 7]]) -> usize
-    ensures { λ r. ⌜ text.Put (rows (text.keyLine (now (s .entry))) (order.ordered (now (s .entry)) (now (entries .entry)))) (now (out .entry)) (now (out .exit)) r ⌝ }
+    ensures { λ r. ⌜ text.Put (bytesOfAll (text.keyLine (now (s .entry))) (order.ordered (now (s .entry)) (now (entries .entry)))) (now (out .entry)) (now (out .exit)) r ⌝ }
 {
     let mut n: usize = 0;
     let mut last = NextKey::Done;
@@ -283,7 +283,7 @@ fn put_keys(out: &mut [u8], s: &[u8], entries: &[[u64; 7]]) -> usize
 
 // The lines of the tensors.
 fn put_tensors(out: &mut [u8], s: &[u8], tensors: &[[u64; 10]]) -> usize
-    ensures { λ r. ⌜ text.Put (rows (text.tensorLine (now (s .entry))) (now (tensors .entry))) (now (out .entry)) (now (out .exit)) r ⌝ }
+    ensures { λ r. ⌜ text.Put (bytesOfAll (text.tensorLine (now (s .entry))) (now (tensors .entry))) (now (out .entry)) (now (out .exit)) r ⌝ }
 {
     let mut n: usize = 0;
     let mut i: usize = 0;
@@ -313,8 +313,8 @@ fn put_all(
 // The listing of a prefix, with the rows that are lent; they are left as the reader leaves them. Answers how many bytes of out it takes.
 pub fn list(out: &mut [u8], s: &[u8], entries: &mut [[u64; 7]], tensors: &mut [[u64; 10]]) -> usize
     ensures { λ r. ⌜ text.Put (text.listingIn (record { entries = length (now (entries .entry)); tensors = length (now (tensors .entry)) }) (now (s .entry))) (now (out .entry)) (now (out .exit)) r ⌝ }
-    ensures { λ r. ⌜ now (entries .exit) ≡ filled entryRow (now (entries .entry)) (seen (λ w. w .entries) (wholeOf full 3 (now (entries .entry)) (now (tensors .entry)) (now (s .entry)))) ⌝ }
-    ensures { λ r. ⌜ now (tensors .exit) ≡ filled tensorRow (now (tensors .entry)) (seen (λ w. w .tensors) (wholeOf full 3 (now (entries .entry)) (now (tensors .entry)) (now (s .entry)))) ⌝ }
+    ensures { λ r. ⌜ now (entries .exit) ≡ filled entryRow (now (entries .entry)) (seen (λ w. w .entries) (readerRun full 3 (now (entries .entry)) (now (tensors .entry)) (now (s .entry)))) ⌝ }
+    ensures { λ r. ⌜ now (tensors .exit) ≡ filled tensorRow (now (tensors .entry)) (seen (λ w. w .tensors) (readerRun full 3 (now (entries .entry)) (now (tensors .entry)) (now (s .entry)))) ⌝ }
 {
     let limits = Limits {
         versions: 3,

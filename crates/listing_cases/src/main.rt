@@ -3,12 +3,14 @@
 // The files in data/ were made from contents, and `stdout` from the same contents, so that neither is any reader's answer. Each refusal that
 // a listing can give is there. 5 and 12 can't be given, since the ceilings are the whole format's, nor can 18, which no prefix reaches.
 use libc::STDOUT_FILENO;
+use rows::ENTRY_WORDS;
+use rows::TENSOR_WORDS;
 
 // The listing of a prefix.
 fn print_listing(prefix: &[u8]) {
-    let entry = [0u64; 7];
+    let entry = [0u64; ENTRY_WORDS];
     let mut entries = [entry; 512];
-    let tensor = [0u64; 10];
+    let tensor = [0u64; TENSOR_WORDS];
     let mut tensors = [tensor; 512];
     let mut text = [0u8; 262144];
     let n = listing::list(&mut text, prefix, &mut entries, &mut tensors);

@@ -25,7 +25,7 @@ twice =
     1 ∷ 0 ∷ 0 ∷ 0 ∷ 97 ∷ 0 ∷ 0 ∷ 0 ∷ 0 ∷ 2 ∷ []
 
 -- the second decides
-pub the-last : lookup (97 ∷ []) twice ≡ Found (record { key = record { place = 30; len = 1 }; aligns = false; value = Single (U8 2) })
+pub the-last : lookup (97 ∷ []) twice ≡ Found (record { key = record { place = 30; len = 1 }; «is_alignment» = false; value = Single (U8 2) })
 unfolding run under seen _>>=_ here each number size textLooking key type scalarWidth text valueOf array value entry magic version counts start header
 the-last = refl
 

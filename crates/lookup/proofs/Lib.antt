@@ -1,4 +1,4 @@
-pub mod Keys
-pub mod Last
-pub mod Rows
+pub mod KeyCompared
+pub mod LastEntry
+pub mod LookupNeverSix
 pub mod Examples

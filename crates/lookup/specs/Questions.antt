@@ -21,8 +21,8 @@ use Rattle.lookup.specs.declared.Sought.{Sought}
 use Rattle.lookup.specs.declared.Sought.the-variants.{Present, Missing}
 use Rattle.lookup.specs.declared.Lookup.{Lookup}
 use Rattle.lookup.specs.declared.Lookup.the-variants.{Found, Absent, Refused}
-use Rattle.lookup.specs.declared.FileTypeTold.{FileTypeTold}
-use Rattle.lookup.specs.declared.FileTypeTold.the-variants.{Known, Unknown as NotKnown, Refused as NotRead}
+use Rattle.lookup.specs.declared.FileTypeRead.{FileTypeRead}
+use Rattle.lookup.specs.declared.FileTypeRead.the-variants.{Known, Unknown as NotKnown, Refused as NotRead}
 
 -- rows for any count, so that none is refused for want of rows
 abbrev pub enough : Rooms
@@ -55,15 +55,15 @@ stringOf s Absent = []
 stringOf s (Refused n p) = []
 
 -- what tells them apart: 0 a string, 100 absent, 101 another type, else the refusal's number with its place
-abbrev pub typeTold : Value → List ℕ
-typeTold (Single x) = 101 ∷ 0 ∷ []
-typeTold (Text a) = 0 ∷ 0 ∷ []
-typeTold (Array a) = 101 ∷ 0 ∷ []
+abbrev pub typeStatus : Value → List ℕ
+typeStatus (Single x) = 101 ∷ 0 ∷ []
+typeStatus (Text a) = 0 ∷ 0 ∷ []
+typeStatus (Array a) = 101 ∷ 0 ∷ []
 
-abbrev pub stringTold : Lookup → List ℕ
-stringTold (Found e) = typeTold (e .value)
-stringTold Absent = 100 ∷ 0 ∷ []
-stringTold (Refused n p) = n ∷ p ∷ []
+abbrev pub stringStatus : Lookup → List ℕ
+stringStatus (Found e) = typeStatus (e .value)
+stringStatus Absent = 100 ∷ 0 ∷ []
+stringStatus (Refused n p) = n ∷ p ∷ []
 
 -- "general.architecture"
 abbrev pub architectureKey : List ℕ
@@ -74,18 +74,18 @@ abbrev pub fileTypeKey : List ℕ
 fileTypeKey = 103 ∷ 101 ∷ 110 ∷ 101 ∷ 114 ∷ 97 ∷ 108 ∷ 46 ∷ 102 ∷ 105 ∷ 108 ∷ 101 ∷ 95 ∷ 116 ∷ 121 ∷ 112 ∷ 101 ∷ []
 
 -- the file type that a number says: the table has the numbers 0 to 24
-abbrev pub fileTypeOf : Natural → FileTypeTold
+abbrev pub fileTypeOf : Natural → FileTypeRead
 fileTypeOf (Number n) = if leb n 24 then Known n else NotKnown
 fileTypeOf NoNumber = NotKnown
 
 -- the file type that a value says: only an integer that is not below 0 says one
-abbrev pub valueFileType : Value → FileTypeTold
+abbrev pub valueFileType : Value → FileTypeRead
 valueFileType (Single x) = fileTypeOf (naturalOf x)
 valueFileType (Text a) = NotKnown
 valueFileType (Array a) = NotKnown
 
 -- the file's type, from the lookup of its key
-abbrev pub fileTypeIn : Lookup → FileTypeTold
+abbrev pub fileTypeIn : Lookup → FileTypeRead
 fileTypeIn (Found e) = valueFileType (e .value)
 fileTypeIn Absent = NotKnown
 fileTypeIn (Refused n p) = NotRead n p

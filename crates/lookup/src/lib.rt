@@ -34,7 +34,7 @@ pub enum Lookup {
     Refused { why: u64, place: usize },
 }
 
-pub enum FileTypeTold {
+pub enum FileTypeRead {
     Known { number: u64 },
     Unknown,
     Refused { why: u64, place: usize },
@@ -132,8 +132,8 @@ pub fn string_of(s: &[u8], found: Lookup) -> &[u8]
 }
 
 // What tells a string from 'absent', from another type and from a refusal.
-pub fn string_told(found: Lookup) -> [u64; 2]
-    ensures { λ r. ⌜ r ≡ questions.stringTold found ⌝ }
+pub fn string_status(found: Lookup) -> [u64; 2]
+    ensures { λ r. ⌜ r ≡ questions.stringStatus found ⌝ }
 {
     match found {
         Lookup::Absent => [TOLD_ABSENT, 0],
@@ -152,48 +152,48 @@ pub fn string_told(found: Lookup) -> [u64; 2]
 // The string of a key, as a part of the prefix, and in told what its emptiness means.
 pub fn find_string<'a>(s: &'a [u8], key: &[u8], told: &mut [u64; 2]) -> &'a [u8]
     ensures { λ r. ⌜ now r ≡ questions.stringOf (now (s .entry)) (questions.lookup (now (key .entry)) (now (s .entry))) ⌝ }
-    ensures { λ r. ⌜ now (told .exit) ≡ questions.stringTold (questions.lookup (now (key .entry)) (now (s .entry))) ⌝ }
+    ensures { λ r. ⌜ now (told .exit) ≡ questions.stringStatus (questions.lookup (now (key .entry)) (now (s .entry))) ⌝ }
 {
     let found = find(s, key);
-    *told = string_told(found);
+    *told = string_status(found);
     string_of(s, found)
 }
 
 // The model's family: the string of "general.architecture".
 pub fn model_family<'a>(s: &'a [u8], told: &mut [u64; 2]) -> &'a [u8]
     ensures { λ r. ⌜ now r ≡ questions.stringOf (now (s .entry)) (questions.lookup questions.architectureKey (now (s .entry))) ⌝ }
-    ensures { λ r. ⌜ now (told .exit) ≡ questions.stringTold (questions.lookup questions.architectureKey (now (s .entry))) ⌝ }
+    ensures { λ r. ⌜ now (told .exit) ≡ questions.stringStatus (questions.lookup questions.architectureKey (now (s .entry))) ⌝ }
 {
     find_string(s, b"general.architecture", told)
 }
 
 // The file type that a number says: the table has the numbers 0 to 24.
-fn file_type_of(n: Natural) -> FileTypeTold
+fn file_type_of(n: Natural) -> FileTypeRead
     ensures { λ r. ⌜ r ≡ questions.fileTypeOf n ⌝ }
 {
     match n {
-        Natural::None => FileTypeTold::Unknown,
+        Natural::None => FileTypeRead::Unknown,
         Natural::Number { value } => {
             if 24 < value {
-                return FileTypeTold::Unknown;
+                return FileTypeRead::Unknown;
             }
-            FileTypeTold::Known { number: value }
+            FileTypeRead::Known { number: value }
         }
     }
 }
 
 // The file's type, from what was found of "general.file_type".
-fn file_type_in(found: Lookup) -> FileTypeTold
+fn file_type_in(found: Lookup) -> FileTypeRead
     ensures { λ r. ⌜ r ≡ questions.fileTypeIn found ⌝ }
 {
     match found {
-        Lookup::Absent => FileTypeTold::Unknown,
-        Lookup::Refused { why, place } => FileTypeTold::Refused { why, place },
+        Lookup::Absent => FileTypeRead::Unknown,
+        Lookup::Refused { why, place } => FileTypeRead::Refused { why, place },
         Lookup::Found { entry } => {
             let v = entry.value;
             match v {
-                Value::Text(_) => FileTypeTold::Unknown,
-                Value::Array(_) => FileTypeTold::Unknown,
+                Value::Text(_) => FileTypeRead::Unknown,
+                Value::Array(_) => FileTypeRead::Unknown,
                 Value::Single(x) => file_type_of(scalars::natural_of(x)),
             }
         }
@@ -201,7 +201,7 @@ fn file_type_in(found: Lookup) -> FileTypeTold
 }
 
 // The file's type: a number of the table, or unknown, or the reader's refusal.
-pub fn file_type(s: &[u8]) -> FileTypeTold
+pub fn file_type(s: &[u8]) -> FileTypeRead
     ensures { λ r. ⌜ r ≡ questions.fileTypeIn (questions.lookup questions.fileTypeKey (now (s .entry))) ⌝ }
 {
     file_type_in(find(s, b"general.file_type"))

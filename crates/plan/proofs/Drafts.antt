@@ -8,7 +8,7 @@ use native.Mathlib.Omega.{arith}
 use lib.Dec.{leb, eqb}
 use lib.ListN.{length, length-map}
 use borrow.Author.Tests.{le-leb, lt-leb, leb-true, leb-false, eqb-false}
-use Rattle.reading.specs.Back.{got, rows}
+use Rattle.reading.specs.Back.{got, bytesOfAll}
 use Rattle.reading.specs.Choice.{if_then_else_}
 use Rattle.reading.specs.Each.{times}
 use Rattle.fields.specs.Order.{before}
@@ -19,15 +19,15 @@ use Rattle.layout.proofs.Padding.{padded-above}
 use Rattle.values.specs.declared.Dialect.{Dialect}
 use Rattle.values.specs.Format.{alignmentKey, sizeWidth, depth}
 use Rattle.scalars.specs.Scalars.{scalarWidth}
-use Rattle.values.specs.Contents.{Entered, entryBytes}
+use Rattle.values.specs.Contents.{EntryContent, entryBytes}
 use Rattle.tensors.specs.Contents.{tensorBytes}
-use Rattle.sheet.specs.Format.{Line, metadata, tensor}
+use Rattle.sheet.specs.Format.{SheetEntry, metadata, tensor}
 use Rattle.sheet.specs.Sheet.{Records, sheetOf}
-use Rattle.sheet.proofs.Whole.{sheet-entries, sheet-tensors}
+use Rattle.sheet.proofs.WholeSheet.{sheet-entries, sheet-tensors}
 use Rattle.plan.specs.declared.Draft.{Draft}
 use Rattle.plan.specs.declared.Room.the-variants.{Left, Over}
 use Rattle.plan.specs.declared.Planned.the-variants.{Fine, Refused}
-use Rattle.plan.specs.Header.{saidIn, adds, alignmentEntry, inserted, enteredIn, entriesWith, entriesOf, weightsFrom, sheetFor, endOf, startOf, recordsIn}
+use Rattle.plan.specs.Header.{ownAlignment, adds, alignmentEntry, inserted, entryIn, entriesWith, entriesOf, laidFrom, headerContents, endOf, startOf, recordsIn}
 use Rattle.plan.specs.Plan.{draftWith, draftOf}
 use Rattle.plan.specs.Steps.{roomed, takenFrom}
 use Rattle.plan.proofs.Rooms.{taken-thrice}
@@ -38,16 +38,16 @@ pub added-length : (k : Dialect) (a : ℕ) → length (entryBytes k (alignmentEn
 unfolding scalarWidth
 added-length k a = entry-length k (alignmentEntry a) ∙ omega (arith, one-length k depth 4 a)
 
-inserted-length : (k : Dialect) (a : ℕ) (es : List Entered) → length (rows (entryBytes k) (inserted a es)) ≡ sizeWidth k + 25 + length (rows (entryBytes k) es)
+inserted-length : (k : Dialect) (a : ℕ) (es : List EntryContent) → length (bytesOfAll (entryBytes k) (inserted a es)) ≡ sizeWidth k + 25 + length (bytesOfAll (entryBytes k) es)
 inserted-length k a [] = omega (arith, rows-more (entryBytes k) (alignmentEntry a) [], rows-none (entryBytes k), added-length k a)
 inserted-length k a (e ∷ es) = by (before alignmentKey (e .key)) (inserted-length k a es)
   where
-    by : (b : Bool) → length (rows (entryBytes k) (inserted a es)) ≡ sizeWidth k + 25 + length (rows (entryBytes k) es)
-        → length (rows (entryBytes k) (if b then alignmentEntry a ∷ e ∷ es else e ∷ inserted a es)) ≡ sizeWidth k + 25 + length (rows (entryBytes k) (e ∷ es))
+    by : (b : Bool) → length (bytesOfAll (entryBytes k) (inserted a es)) ≡ sizeWidth k + 25 + length (bytesOfAll (entryBytes k) es)
+        → length (bytesOfAll (entryBytes k) (if b then alignmentEntry a ∷ e ∷ es else e ∷ inserted a es)) ≡ sizeWidth k + 25 + length (bytesOfAll (entryBytes k) (e ∷ es))
     by true h = omega (arith, rows-more (entryBytes k) (alignmentEntry a) (e ∷ es), added-length k a)
     by false h = omega (arith, rows-more (entryBytes k) e (inserted a es), rows-more (entryBytes k) e es, h)
 
-inserted-count : (a : ℕ) (es : List Entered) → length (inserted a es) ≡ length es + 1
+inserted-count : (a : ℕ) (es : List EntryContent) → length (inserted a es) ≡ length es + 1
 inserted-count a [] = refl
 inserted-count a (e ∷ es) = by (before alignmentKey (e .key)) (inserted-count a es)
   where
@@ -55,22 +55,22 @@ inserted-count a (e ∷ es) = by (before alignmentKey (e .key)) (inserted-count 
     by true h = omega arith
     by false h = omega arith
 
-with-length : (k : Dialect) (b : Bool) (a : ℕ) (es : List Line) → length (rows (entryBytes k) (entriesWith b a es)) ≡ (if b then sizeWidth k + 25 else 0) + length (rows (entryBytes k) (map enteredIn es))
-with-length k true a es = inserted-length k a (map enteredIn es)
+with-length : (k : Dialect) (b : Bool) (a : ℕ) (es : List SheetEntry) → length (bytesOfAll (entryBytes k) (entriesWith b a es)) ≡ (if b then sizeWidth k + 25 else 0) + length (bytesOfAll (entryBytes k) (map entryIn es))
+with-length k true a es = inserted-length k a (map entryIn es)
 with-length k false a es = omega arith
 
-with-count : (b : Bool) (a : ℕ) (es : List Line) → length (entriesWith b a es) ≡ length es + (if b then 1 else 0)
-with-count true a es = inserted-count a (map enteredIn es) ∙ ap (λ n. n + 1) (length-map es enteredIn)
-with-count false a es = length-map es enteredIn ∙ omega arith
+with-count : (b : Bool) (a : ℕ) (es : List SheetEntry) → length (entriesWith b a es) ≡ length es + (if b then 1 else 0)
+with-count true a es = inserted-count a (map entryIn es) ∙ ap (λ n. n + 1) (length-map es entryIn)
+with-count false a es = length-map es entryIn ∙ omega arith
 
 -- how many entries the header has
-pub entries-count : (a : ℕ) (es : List Line) → length (entriesOf a es) ≡ length es + (if adds a (saidIn es) then 1 else 0)
-entries-count a es = with-count (adds a (saidIn es)) a es
+pub entries-count : (a : ℕ) (es : List SheetEntry) → length (entriesOf a es) ≡ length es + (if adds a (ownAlignment es) then 1 else 0)
+entries-count a es = with-count (adds a (ownAlignment es)) a es
 
 -- how long it is
-pub end-length : (k : Dialect) (a : ℕ) (c : Records) → 8 + sizeWidth k + sizeWidth k + (if adds a (saidIn (c .entries)) then sizeWidth k + 25 else 0) + length (rows (entryBytes k) (map enteredIn (c .entries)))
-    + length (rows (tensorBytes k) (weightsFrom a nothingLaid (c .tensors))) ≡ endOf k a c
-end-length k a c = omega (arith, header-length k (sheetFor a c), with-length k (adds a (saidIn (c .entries))) a (c .entries))
+pub end-length : (k : Dialect) (a : ℕ) (c : Records) → 8 + sizeWidth k + sizeWidth k + (if adds a (ownAlignment (c .entries)) then sizeWidth k + 25 else 0) + length (bytesOfAll (entryBytes k) (map entryIn (c .entries)))
+    + length (bytesOfAll (tensorBytes k) (laidFrom a nothingLaid (c .tensors))) ≡ endOf k a c
+end-length k a c = omega (arith, header-length k (headerContents a c), with-length k (adds a (ownAlignment (c .entries))) a (c .entries))
 
 -- the lists of a sheet that is well formed, from a draft of it
 module _ (s : List ℕ) (whole : isAccepted (sheetOf s) ≡ true) where
@@ -106,17 +106,17 @@ module _ (s : List ℕ) (whole : isAccepted (sheetOf s) ≡ true) where
     tensors-got = ap got (sym listed-tensors)
 
     -- what its header leaves of a room, where x is what the added entry takes
-    pub header-taken : (k : Dialect) (room a : ℕ) → d .adds ≡ adds a (saidIn (recordsIn (sheetOf s) .entries)) → {x : ℕ} → x ≡ (if d .adds then sizeWidth k + 25 else 0)
-        → takenFrom (takenFrom (takenFrom (Left room) (8 + sizeWidth k + sizeWidth k + x)) (length (rows (entryBytes k) (map enteredIn (got (run (times (d .entries) metadata) s 1))))))
-        (length (rows (tensorBytes k) (weightsFrom a nothingLaid (got (run (times (d .tensors) tensor) s (d .first))))))
+    pub header-taken : (k : Dialect) (room a : ℕ) → d .adds ≡ adds a (ownAlignment (recordsIn (sheetOf s) .entries)) → {x : ℕ} → x ≡ (if d .adds then sizeWidth k + 25 else 0)
+        → takenFrom (takenFrom (takenFrom (Left room) (8 + sizeWidth k + sizeWidth k + x)) (length (bytesOfAll (entryBytes k) (map entryIn (got (run (times (d .entries) metadata) s 1))))))
+        (length (bytesOfAll (tensorBytes k) (laidFrom a nothingLaid (got (run (times (d .tensors) tensor) s (d .first))))))
         ≡ takenFrom (Left room) (endOf k a (recordsIn (sheetOf s)))
     header-taken k room a adding {x} extra =
         let w = sizeWidth k in
-        let more : x ≡ (if adds a (saidIn (recordsIn (sheetOf s) .entries)) then w + 25 else 0) = extra ∙ ap (λ t. if t then w + 25 else 0) adding in
+        let more : x ≡ (if adds a (ownAlignment (recordsIn (sheetOf s) .entries)) then w + 25 else 0) = extra ∙ ap (λ t. if t then w + 25 else 0) adding in
         taken-thrice (Left room) _ _ _
-        ∙ ap (λ l. takenFrom (Left room) (8 + w + w + x + length (rows (entryBytes k) (map enteredIn l)) + length (rows (tensorBytes k) (weightsFrom a nothingLaid (got (run (times (d .tensors) tensor) s (d .first))))))) entries-got
-        ∙ ap (λ l. takenFrom (Left room) (8 + w + w + x + length (rows (entryBytes k) (map enteredIn (recordsIn (sheetOf s) .entries))) + length (rows (tensorBytes k) (weightsFrom a nothingLaid l)))) tensors-got
-        ∙ ap (λ y. takenFrom (Left room) (8 + w + w + y + length (rows (entryBytes k) (map enteredIn (recordsIn (sheetOf s) .entries))) + length (rows (tensorBytes k) (weightsFrom a nothingLaid (recordsIn (sheetOf s) .tensors))))) more
+        ∙ ap (λ l. takenFrom (Left room) (8 + w + w + x + length (bytesOfAll (entryBytes k) (map entryIn l)) + length (bytesOfAll (tensorBytes k) (laidFrom a nothingLaid (got (run (times (d .tensors) tensor) s (d .first))))))) entries-got
+        ∙ ap (λ l. takenFrom (Left room) (8 + w + w + x + length (bytesOfAll (entryBytes k) (map entryIn (recordsIn (sheetOf s) .entries))) + length (bytesOfAll (tensorBytes k) (laidFrom a nothingLaid l)))) tensors-got
+        ∙ ap (λ y. takenFrom (Left room) (8 + w + w + y + length (bytesOfAll (entryBytes k) (map entryIn (recordsIn (sheetOf s) .entries))) + length (bytesOfAll (tensorBytes k) (laidFrom a nothingLaid (recordsIn (sheetOf s) .tensors))))) more
         ∙ ap (takenFrom (Left room)) (end-length k a (recordsIn (sheetOf s)))
 
 -- a draft by its own word of the alignment

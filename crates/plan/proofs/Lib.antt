@@ -2,6 +2,6 @@ pub mod Rooms
 pub mod Counts
 pub mod Sizes
 pub mod Measures
-pub mod Turns
+pub mod PlanTurns
 pub mod Drafts
 pub mod Tests

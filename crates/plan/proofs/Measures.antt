@@ -8,27 +8,27 @@ use native.Mathlib.Nat.{suc-mul}
 use lib.Dec.{leb, ltb, eqb}
 use lib.ListN.{length}
 use borrow.Author.Tests.{eqb-true, eq-eqb, ne-eqb}
-use Rattle.reading.specs.Back.{Sure, rows}
+use Rattle.reading.specs.Back.{Sure, bytesOfAll}
 use Rattle.reading.specs.Choice.{if_then_else_}
 use Rattle.reading.specs.Each.{each, times}
 use Rattle.reading.specs.Reading.{Answer, accepted, refused, run, isAccepted}
 use Rattle.fields.specs.Value.{widthOf, number}
 use Rattle.fields.specs.declared.Width.{Width}
 use Rattle.fields.proofs.Before.{clash}
-use Rattle.reading.proofs.Sure.{sure-then, sure-done, sure-refuse, sure-here, sure-check, sure-if, sure-run, whatever}
+use Rattle.reading.proofs.SureLaws.{sure-then, sure-done, sure-refuse, sure-here, sure-check, sure-if, sure-run, whatever}
 use Rattle.values.specs.declared.Dialect.{Dialect}
 use Rattle.values.specs.Format.{sizeWidth, depth}
 use Rattle.scalars.specs.Scalars.{scalarWidth}
-use Rattle.values.specs.Contents.{Said, Content, one, word, list, saidBytes}
+use Rattle.values.specs.Contents.{ValueContent, Content, aScalar, aText, anArray, valueBytes}
 use Rattle.values.proofs.Texts.{bytes-length}
-use Rattle.header.specs.Contents.{alignmentSaid}
+use Rattle.header.specs.Contents.{contentAlignment}
 use Rattle.sheet.specs.Format.{Text, scalar, itemType, array, item, value}
 use Rattle.sheet.specs.Sheet.{stepOf}
 use Rattle.sheet.specs.declared.Stepped.the-variants.{To}
-use Rattle.sheet.proofs.Items.{has-width, has-none, value-array}
+use Rattle.sheet.proofs.SheetItems.{has-width, has-none, value-array}
 use Rattle.sheet.proofs.Steps.{step-yes}
-use Rattle.sheet.proofs.Parts.{TextTold, scalar-told, sure-textOf, sure-text, onward}
-use Rattle.plan.specs.Header.{heard}
+use Rattle.sheet.proofs.PartsFound.{TextTold, scalar-told, sure-textOf, sure-text, onward}
+use Rattle.plan.specs.Header.{contentRead}
 use Rattle.plan.proofs.Sizes.{size-cases, one-length, word-length, list-length, rows-more, rows-none}
 
 -- two answers of one run
@@ -52,12 +52,12 @@ pub record ArrayTold (s : List ℕ) (at : ℕ) (c : Content (suc depth)) (e : �
   pub typed : accepted type after ≡ run (number 1 true) s at
   pub counted : accepted count first ≡ run (number 4 true) s after
   pub read : accepted items e ≡ run (times count (item depth type)) s first
-  pub made : c ≡ list type items
+  pub made : c ≡ anArray type items
 
 -- where an array's items end, and how long it is in the header
 pub record Measured (k : Dialect) (c : Content (suc depth)) (e t n q : ℕ) : Type 0 where
   pub ends : q ≤ e
-  pub whole : length (saidBytes (suc depth) k c) + q ≡ sizeWidth k + 4 + e + n * wider k t
+  pub whole : length (valueBytes (suc depth) k c) + q ≡ sizeWidth k + 4 + e + n * wider k t
   pub few : t ≡ 8 → q + n * 4 ≤ e
 
 -- the types of texts and arrays are no scalar's
@@ -83,13 +83,13 @@ module _ (s : List ℕ) where
 
   module _ (k : Dialect) where
     -- an item of an array
-    scalar-item : (t v p : ℕ) {q : ℕ} → ltb 0 (scalarWidth t) ≡ true → q ≡ p + scalarWidth t → (length (saidBytes depth k (one t v)) + p ≡ q + wider k t) × (t ≡ 8 → p + 4 ≤ q)
+    scalar-item : (t v p : ℕ) {q : ℕ} → ltb 0 (scalarWidth t) ≡ true → q ≡ p + scalarWidth t → (length (valueBytes depth k (aScalar t v)) + p ≡ q + wider k t) × (t ≡ 8 → p + 4 ≤ q)
     scalar-item t v p i h = (omega (arith, one-length k 0 t v, no-wider k t (not-text t i)), λ e. absurd (not-text t i e))
 
-    text-item : (t p : ℕ) {q : ℕ} {a : Text} → eqb t 8 ≡ true → TextTold s (p + 4) a q → (length (saidBytes depth k (word (a .bytes))) + p ≡ q + wider k t) × (t ≡ 8 → p + 4 ≤ q)
+    text-item : (t p : ℕ) {q : ℕ} {a : Text} → eqb t 8 ≡ true → TextTold s (p + 4) a q → (length (valueBytes depth k (aText (a .bytes))) + p ≡ q + wider k t) × (t ≡ 8 → p + 4 ≤ q)
     text-item t p {a = a} j h = (omega (arith, word-length k 0 (a .bytes), much-wider k t j, text-bytes h), λ e. omega (arith, text-bytes h))
 
-    item-measure : (t p : ℕ) → Sure s (item depth t) p (λ c q. (length (saidBytes depth k c) + p ≡ q + wider k t) × (t ≡ 8 → p + 4 ≤ q))
+    item-measure : (t p : ℕ) → Sure s (item depth t) p (λ c q. (length (valueBytes depth k c) + p ≡ q + wider k t) × (t ≡ 8 → p + 4 ≤ q))
     unfolding item array
     item-measure t p =
         sure-if (ltb 0 (scalarWidth t)) _ _
@@ -97,17 +97,17 @@ module _ (s : List ℕ) where
         (λ i. sure-if (eqb t 8) _ _ (λ j. sure-then (sure-text s p) (λ a q h. sure-done (text-item t p j h))) (λ j. sure-refuse))
 
     -- so many items
-    items-measure : (n t p : ℕ) → Sure s (times n (item depth t)) p (λ l q. (length (rows (saidBytes depth k) l) + p ≡ q + n * wider k t) × (t ≡ 8 → p + n * 4 ≤ q))
+    items-measure : (n t p : ℕ) → Sure s (times n (item depth t)) p (λ l q. (length (bytesOfAll (valueBytes depth k) l) + p ≡ q + n * wider k t) × (t ≡ 8 → p + n * 4 ≤ q))
     unfolding each
-    items-measure zero t p = sure-done (omega (arith, rows-none (saidBytes depth k)), λ e. omega arith)
+    items-measure zero t p = sure-done (omega (arith, rows-none (valueBytes depth k)), λ e. omega arith)
     items-measure (suc n) t p =
         sure-then (item-measure t p) (λ c q h. sure-then (items-measure n t q) (λ l r g. sure-done (
-          omega (arith, rows-more (saidBytes depth k) c l, h .0, g .0, suc-mul n (wider k t)),
+          omega (arith, rows-more (valueBytes depth k) c l, h .0, g .0, suc-mul n (wider k t)),
           λ e. omega (arith, h .1 e, g .1 e),
         )))
 
     -- a value that is no array
-    plain-measure : (e t p : ℕ) → Sure s (value e t) p (λ c q. (t ≡ 9 → ⊥) → length (saidBytes (suc depth) k c) + p ≡ q + (if eqb t 8 then sizeWidth k else 0))
+    plain-measure : (e t p : ℕ) → Sure s (value e t) p (λ c q. (t ≡ 9 → ⊥) → length (valueBytes (suc depth) k c) + p ≡ q + (if eqb t 8 then sizeWidth k else 0))
     unfolding value
     plain-measure e t p =
         sure-if (ltb 0 (scalarWidth t)) _ _
@@ -149,7 +149,7 @@ module _ (s : List ℕ) where
           let b = same-answer (subst (λ o. accepted (h .count) (h .first) ≡ run (number 4 true) s o) (a .1) (h .counted)) counted in
           let r : accepted (h .items) e ≡ run (times n (item depth t)) s q = rw (a .0, b .0, b .1) at (h .read) in
           let m = items-measure k n t q .holds (h .items) e r in
-          let o : c ≡ list t (h .items) = rw (a .0) at (h .made) in
+          let o : c ≡ anArray t (h .items) = rw (a .0) at (h .made) in
           record {
             ends = onward (times n (item depth t)) s q r;
             whole = rw o (omega (arith, list-length k depth t (h .items), m .0));
@@ -158,7 +158,7 @@ module _ (s : List ℕ) where
 
 -- what a value is: a scalar that was read, or nothing that gives an alignment
 module _ (s : List ℕ) where
-  pub other-value : (e t p : ℕ) → Sure s (value e t) p (λ c q. ltb 0 (scalarWidth t) ≡ false → alignmentSaid c ≡ 32)
+  pub other-value : (e t p : ℕ) → Sure s (value e t) p (λ c q. ltb 0 (scalarWidth t) ≡ false → contentAlignment c ≡ 32)
   unfolding value array
   other-value e t p =
       sure-if (ltb 0 (scalarWidth t)) _ _ (λ i. sure-then whatever (λ v q h. sure-done (λ j. clash i j)))
@@ -169,15 +169,15 @@ module _ (s : List ℕ) where
   unfolding scalar
   scalar-read t p = sure-then (sure-run whatever) (λ v q h. sure-check (if eqb t 7 then leb v 1 else true) 31 0 _ (λ e. sure-done (q, h .1)))
 
-  pub scalar-value : (e t p : ℕ) → Sure s (value e t) p (λ c q. ltb 0 (scalarWidth t) ≡ true → (v : ℕ) × (o : ℕ) × (accepted v o ≡ run (number (scalarWidth t) true) s p) × (c ≡ one t v))
+  pub scalar-value : (e t p : ℕ) → Sure s (value e t) p (λ c q. ltb 0 (scalarWidth t) ≡ true → (v : ℕ) × (o : ℕ) × (accepted v o ≡ run (number (scalarWidth t) true) s p) × (c ≡ aScalar t v))
   unfolding value
   scalar-value e t p =
       sure-if (ltb 0 (scalarWidth t)) _ _ (λ i. sure-then (scalar-read t p) (λ v q h. sure-done (λ j. (v, h .0, h .1, refl))))
       (λ i. record { holds = λ c q r j. clash j i })
 
 -- what is heard of a value that was read
-pub heard-one : {I : Type 0} {r : Answer (Said I)} {c : Said I} {q : ℕ} → accepted c q ≡ r → heard r ≡ c
-heard-one e = ap heard (sym e)
+pub heard-one : {I : Type 0} {r : Answer (ValueContent I)} {c : ValueContent I} {q : ℕ} → accepted c q ≡ r → contentRead r ≡ c
+heard-one e = ap contentRead (sym e)
 
 accepted-parts : {A : Type 0} (r : Answer A) → isAccepted r ≡ true → (a : A) × (q : ℕ) × (accepted a q ≡ r)
 accepted-parts (accepted a q) e = (a, q, refl)
@@ -185,7 +185,7 @@ accepted-parts (refused n p) e = let z : _≡_ {A = ℕ} 0 1 = cc in absurd (ome
 
 -- the alignment of a value that was accepted
 module _ (s : List ℕ) (e t at : ℕ) (there : isAccepted (run (value e t) s at) ≡ true) where
-  pub says-nothing : 0 ≡ scalarWidth t → 32 ≡ alignmentSaid (heard (run (value e t) s at))
+  pub says-nothing : 0 ≡ scalarWidth t → 32 ≡ contentAlignment (contentRead (run (value e t) s at))
   says-nothing none =
       let r = accepted-parts (run (value e t) s at) there in
       rw (heard-one (r .2)) (sym (other-value s e t at .holds (r .0) (r .1) (r .2) (has-none t none)))
@@ -197,27 +197,27 @@ module _ (s : List ℕ) (e t at : ℕ) (there : isAccepted (run (value e t) s at
         let h = scalar-value s e t at .holds (r .0) (r .1) (r .2) (has-width w t wide) in
         never-both (h .2) (rw wide at missing)
 
-    pub says-scalar : {v q : ℕ} → accepted v q ≡ run (number (widthOf w) true) s at → heard (run (value e t) s at) ≡ one t v
+    pub says-scalar : {v q : ℕ} → accepted v q ≡ run (number (widthOf w) true) s at → contentRead (run (value e t) s at) ≡ aScalar t v
     says-scalar {v} {q} read =
         let r = accepted-parts (run (value e t) s at) there in
         let h = scalar-value s e t at .holds (r .0) (r .1) (r .2) (has-width w t wide) in
-        heard-one (r .2) ∙ h .3 ∙ ap (one t) (same-answer (h .2) (rw wide at read) .0)
+        heard-one (r .2) ∙ h .3 ∙ ap (aScalar t) (same-answer (h .2) (rw wide at read) .0)
 
 -- the sizes, as the code has them
 module _ (s : List ℕ) (k : Dialect) (at : ℕ) where
   pub array-size : {c : Content (suc depth)} {e t n q : ℕ} → accepted c e ≡ run (array depth (item depth)) s at → Measured k c e t n q
-      → sizeWidth k + 4 + (e - q) + n * wider k t ≡ length (saidBytes (suc depth) k (heard (run (array depth (item depth)) s at)))
+      → sizeWidth k + 4 + (e - q) + n * wider k t ≡ length (valueBytes (suc depth) k (contentRead (run (array depth (item depth)) s at)))
   array-size there m = rw (heard-one there) (omega (arith, m .ends, m .whole))
 
   module _ {e t : ℕ} (there : To e ≡ stepOf (run (value e t) s at)) where
-    pub text-size : t ≡ 8 → sizeWidth k + (e - at) ≡ length (saidBytes (suc depth) k (heard (run (value e t) s at)))
+    pub text-size : t ≡ 8 → sizeWidth k + (e - at) ≡ length (valueBytes (suc depth) k (contentRead (run (value e t) s at)))
     text-size h =
         let r = step-yes (run (value e t) s at) there in
         let m = plain-measure s k e t at .holds (r .what) e (r .is) (λ i. omega arith) in
         let o = onward (value e t) s at (r .is) in
         rw (heard-one (r .is)) (omega (arith, o, rw (eq-eqb t 8 h) at m))
 
-    pub scalar-size : (t ≡ 8 → ⊥) → (t ≡ 9 → ⊥) → e - at ≡ length (saidBytes (suc depth) k (heard (run (value e t) s at)))
+    pub scalar-size : (t ≡ 8 → ⊥) → (t ≡ 9 → ⊥) → e - at ≡ length (valueBytes (suc depth) k (contentRead (run (value e t) s at)))
     scalar-size h i =
         let r = step-yes (run (value e t) s at) there in
         let m = plain-measure s k e t at .holds (r .what) e (r .is) i in

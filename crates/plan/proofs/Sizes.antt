@@ -8,18 +8,18 @@ use lib.Dec.{eqb, ltb}
 use lib.ListN.{length, length-append}
 use Rattle.reading.specs.Choice.{if_then_else_}
 use Rattle.fields.specs.Bytes.{bytesOf}
-use Rattle.reading.specs.Back.{rows}
+use Rattle.reading.specs.Back.{bytesOfAll}
 use Rattle.fields.proofs.Bytes.{length-bytesOf}
 use Rattle.values.specs.declared.Dialect.{Dialect}
 use Rattle.tensors.specs.declared.Shape.{Shape}
 use Rattle.values.specs.Format.{sizeWidth, depth}
 use Rattle.scalars.specs.Scalars.{scalarWidth}
-use Rattle.values.specs.Contents.{Content, one, word, list, Entered, sizeBytes, textBytes, typeBytes, typeOf, saidBytes, entryBytes}
-use Rattle.tensors.specs.Contents.{Weight, lengthBytes, shapeBytes, storedBytes, tensorBytes}
+use Rattle.values.specs.Contents.{Content, aScalar, aText, anArray, EntryContent, sizeBytes, textBytes, typeBytes, typeOf, valueBytes, entryBytes}
+use Rattle.tensors.specs.Contents.{TensorContent, lengthBytes, shapeBytes, kindAndOffsetBytes, tensorBytes}
 use Rattle.start.specs.declared.Start.{Start}
-use Rattle.header.specs.Contents.{Sheet, headerBytes}
+use Rattle.header.specs.Contents.{Contents, headerBytes}
 use Rattle.start.specs.Contents.{startBytes}
-use Rattle.sheet.proofs.Parts.{eights}
+use Rattle.sheet.proofs.PartsFound.{eights}
 
 -- a size has 4 bytes or 8
 pub size-cases : (k : Dialect) → (4 ≤ sizeWidth k) × (sizeWidth k ≤ 8)
@@ -46,27 +46,27 @@ module _ (k : Dialect) where
   unfolding textBytes
   text-length b = length-append (sizeBytes k (length b)) b ∙ ap (λ n. n + length b) (size-length (length b))
 
-  pub one-length : (d t v : ℕ) → length (saidBytes (suc d) k (one t v)) ≡ scalarWidth t
-  unfolding saidBytes
+  pub one-length : (d t v : ℕ) → length (valueBytes (suc d) k (aScalar t v)) ≡ scalarWidth t
+  unfolding valueBytes
   one-length d t v = length-bytesOf (k .big) (scalarWidth t) v
 
-  pub word-length : (d : ℕ) (b : List ℕ) → length (saidBytes (suc d) k (word b)) ≡ sizeWidth k + length b
-  unfolding saidBytes
+  pub word-length : (d : ℕ) (b : List ℕ) → length (valueBytes (suc d) k (aText b)) ≡ sizeWidth k + length b
+  unfolding valueBytes
   word-length d b = text-length b
 
-  pub list-length : (d t : ℕ) (l : List (Content d)) → length (saidBytes (suc d) k (list t l)) ≡ sizeWidth k + 4 + length (rows (saidBytes d k) l)
-  unfolding saidBytes
+  pub list-length : (d t : ℕ) (l : List (Content d)) → length (valueBytes (suc d) k (anArray t l)) ≡ sizeWidth k + 4 + length (bytesOfAll (valueBytes d k) l)
+  unfolding valueBytes
   list-length d t l =
-      length-append (typeBytes k t ++ sizeBytes k (length l)) (rows (saidBytes d k) l)
-      ∙ ap (λ n. n + length (rows (saidBytes d k) l)) (length-append (typeBytes k t) (sizeBytes k (length l)) ∙ rw (type-length t, size-length (length l)) (omega arith))
+      length-append (typeBytes k t ++ sizeBytes k (length l)) (bytesOfAll (valueBytes d k) l)
+      ∙ ap (λ n. n + length (bytesOfAll (valueBytes d k) l)) (length-append (typeBytes k t) (sizeBytes k (length l)) ∙ rw (type-length t, size-length (length l)) (omega arith))
 
   -- a key, a type and a value
   pub entry-size : (b : List ℕ) (t : ℕ) (l : List ℕ) → length (textBytes k b ++ typeBytes k t ++ l) ≡ sizeWidth k + length b + 4 + length l
   entry-size b t l = length-append (textBytes k b ++ typeBytes k t) l ∙ rw (length-append (textBytes k b) (typeBytes k t), text-length b, type-length t)
 
-  pub entry-length : (e : Entered) → length (entryBytes k e) ≡ sizeWidth k + 4 + length (e .key) + length (saidBytes (suc depth) k (e .said))
+  pub entry-length : (e : EntryContent) → length (entryBytes k e) ≡ sizeWidth k + 4 + length (e .key) + length (valueBytes (suc depth) k (e .value))
   unfolding entryBytes
-  entry-length e = entry-size (e .key) (typeOf (e .said)) (saidBytes (suc depth) k (e .said)) ∙ omega arith
+  entry-length e = entry-size (e .key) (typeOf (e .value)) (valueBytes (suc depth) k (e .value)) ∙ omega arith
 
   -- a length of a shape
   one-more : (n i v : ℕ) → length (lengthBytes k n i v) ≡ eight n i
@@ -82,19 +82,19 @@ module _ (k : Dialect) where
   shape-length x =
       rw (length-append, length-append, length-append, length-append, type-length, one-more, one-more, one-more, one-more)
 
-  pub stored-length : (t o : ℕ) → length (storedBytes k t o) ≡ 12
-  unfolding storedBytes
+  pub stored-length : (t o : ℕ) → length (kindAndOffsetBytes k t o) ≡ 12
+  unfolding kindAndOffsetBytes
   stored-length t o = length-append (typeBytes k t) (bytesOf (k .big) 8 o) ∙ rw (type-length t, length-bytesOf (k .big) 8 o)
 
-  pub tensor-length : (t : Weight) → let n = t .shape .dimensions in
+  pub tensor-length : (t : TensorContent) → let n = t .shape .dimensions in
       length (tensorBytes k t) ≡ sizeWidth k + length (t .name) + (4 + eight n 0 + eight n 1 + eight n 2 + eight n 3) + 12
   unfolding tensorBytes
   tensor-length t =
-      length-append (textBytes k (t .name) ++ shapeBytes k (t .shape)) (storedBytes k (t .kind) (t .offset))
+      length-append (textBytes k (t .name) ++ shapeBytes k (t .shape)) (kindAndOffsetBytes k (t .kind) (t .offset))
       ∙ rw (length-append (textBytes k (t .name)) (shapeBytes k (t .shape)), text-length (t .name), shape-length (t .shape), stored-length (t .kind) (t .offset))
 
   -- eight bytes for each of up to four
-  pub tensor-eights : (t : Weight) → t .shape .dimensions ≤ 4 → length (tensorBytes k t) ≡ sizeWidth k + 16 + 8 * t .shape .dimensions + length (t .name)
+  pub tensor-eights : (t : TensorContent) → t .shape .dimensions ≤ 4 → length (tensorBytes k t) ≡ sizeWidth k + 16 + 8 * t .shape .dimensions + length (t .name)
   tensor-eights t few = tensor-length t ∙ omega (arith, eights (t .shape .dimensions) few)
 
 -- what stands before the first record
@@ -103,16 +103,16 @@ unfolding startBytes
 start-length c =
     rw (length-append, length-append, length-append, length-bytesOf, length-bytesOf, size-length, size-length)
 
-pub header-length : (k : Dialect) (c : Sheet) → length (headerBytes k c) ≡ 8 + sizeWidth k + sizeWidth k + length (rows (entryBytes k) (c .entries)) + length (rows (tensorBytes k) (c .tensors))
+pub header-length : (k : Dialect) (c : Contents) → length (headerBytes k c) ≡ 8 + sizeWidth k + sizeWidth k + length (bytesOfAll (entryBytes k) (c .entries)) + length (bytesOfAll (tensorBytes k) (c .tensors))
 unfolding headerBytes
 header-length k c =
     rw (length-append, length-append, start-length)
 
 -- one record more
-pub rows-more : {C : Type 0} (enc : C → List ℕ) (c : C) (cs : List C) → length (rows enc (c ∷ cs)) ≡ length (enc c) + length (rows enc cs)
-unfolding rows
-rows-more enc c cs = length-append (enc c) (rows enc cs)
+pub rows-more : {C : Type 0} (enc : C → List ℕ) (c : C) (cs : List C) → length (bytesOfAll enc (c ∷ cs)) ≡ length (enc c) + length (bytesOfAll enc cs)
+unfolding bytesOfAll
+rows-more enc c cs = length-append (enc c) (bytesOfAll enc cs)
 
-pub rows-none : {C : Type 0} (enc : C → List ℕ) → length (rows enc []) ≡ 0
-unfolding rows
+pub rows-none : {C : Type 0} (enc : C → List ℕ) → length (bytesOfAll enc []) ≡ 0
+unfolding bytesOfAll
 rows-none enc = refl

@@ -10,14 +10,14 @@ use Rattle.reading.specs.Choice.{if_then_else_}
 use Rattle.reading.specs.Reading.{Answer, accepted, refused, isAccepted}
 use Rattle.layout.specs.Layout.{layoutOf}
 use Rattle.values.specs.declared.Dialect.{Dialect}
-use Rattle.sheet.specs.declared.Checked.the-variants.{Whole, Bad}
+use Rattle.sheet.specs.declared.Checked.the-variants.{WellFormed, Bad}
 use Rattle.sheet.specs.Sheet.{Records, sheetOf, checkedOf}
 use Rattle.plan.specs.declared.Draft.{Draft}
-use Rattle.plan.specs.declared.SaidAlignment.the-variants.{By, Absent}
+use Rattle.plan.specs.declared.OwnAlignment.the-variants.{Own, Absent}
 use Rattle.plan.specs.declared.LaidOut.the-variants.{Fits, Refused as NotLaid}
 use Rattle.plan.specs.declared.Planned.{Planned}
 use Rattle.plan.specs.declared.Planned.the-variants.{Refused}
-use Rattle.plan.specs.Header.{saidIn, adds, entriesOf, pieceOf, recordsIn}
+use Rattle.plan.specs.Header.{ownAlignment, adds, entriesOf, pieceOf, recordsIn}
 use Rattle.plan.specs.Plan.{requireFormed, isAlignment, canAdd, agrees, laidOf, requireLaid, require, countsFit, draftWith, draftOf, planFor}
 use Rattle.plan.specs.Steps.{roomed, laid, aligned}
 use Rattle.plan.proofs.Drafts.{entries-count}
@@ -54,7 +54,7 @@ module _ (k : Dialect) (a room : ℕ) (s : List ℕ) where
       well-formed h = formed-cases (sheetOf s) h ∙ by-sheet
 
 -- what is counted of a sheet that is well formed
-pub counted : (r : Answer Records) {n m f : ℕ} → Whole n m f ≡ checkedOf r → (isAccepted r ≡ true) × (record { entries = n; tensors = m; first = f; adds = false } ≡ draftWith false (recordsIn r))
+pub counted : (r : Answer Records) {n m f : ℕ} → WellFormed n m f ≡ checkedOf r → (isAccepted r ≡ true) × (record { entries = n; tensors = m; first = f; adds = false } ≡ draftWith false (recordsIn r))
 counted (accepted c e) {n} {m} {f} h =
     let i : n ≡ length (c .entries) = cc in
     let j : m ≡ length (c .tensors) = cc in
@@ -77,20 +77,20 @@ module _ (k : Dialect) (a room : ℕ) (c : Records) where
     aligned-not h = rw (ne-eqb a 0 some, ne-eqb (a % 8) 0 h)
 
     module _ (eighth : a % 8 ≡ 0) where
-      agreed : canAdd a (saidIn (c .entries)) ≡ true → agrees a (saidIn (c .entries)) ≡ true → laid k a room c ≡ aligned k a room c
+      agreed : canAdd a (ownAlignment (c .entries)) ≡ true → agrees a (ownAlignment (c .entries)) ≡ true → laid k a room c ≡ aligned k a room c
       agreed f g =
-          tested (agrees a (saidIn (c .entries))) (Refused 34 0) (laid k a room c) g
-          ∙ tested (canAdd a (saidIn (c .entries))) (Refused 33 0) (require (agrees a (saidIn (c .entries))) (Refused 34 0) (laid k a room c)) f
-          ∙ tested (isAlignment a) (Refused 32 0) (require (canAdd a (saidIn (c .entries))) (Refused 33 0) (require (agrees a (saidIn (c .entries))) (Refused 34 0) (laid k a room c))) (rw (ne-eqb a 0 some, eq-eqb (a % 8) 0 eighth))
+          tested (agrees a (ownAlignment (c .entries))) (Refused 34 0) (laid k a room c) g
+          ∙ tested (canAdd a (ownAlignment (c .entries))) (Refused 33 0) (require (agrees a (ownAlignment (c .entries))) (Refused 34 0) (laid k a room c)) f
+          ∙ tested (isAlignment a) (Refused 32 0) (require (canAdd a (ownAlignment (c .entries))) (Refused 33 0) (require (agrees a (ownAlignment (c .entries))) (Refused 34 0) (laid k a room c))) (rw (ne-eqb a 0 some, eq-eqb (a % 8) 0 eighth))
 
-      module _ {x : ℕ} (said : By x ≡ saidIn (c .entries)) where
+      module _ {x : ℕ} (said : Own x ≡ ownAlignment (c .entries)) where
         pub other-said : (x ≡ a → ⊥) → Refused 34 0 ≡ aligned k a room c
         other-said h = rw (ne-eqb a 0 some, eq-eqb (a % 8) 0 eighth, ← said, ne-eqb x a h)
 
         pub same-said : x ≡ a → laid k a room c ≡ aligned k a room c
         same-said h = agreed (ap (canAdd a) (sym said)) (ap (agrees a) (sym said) ∙ eq-eqb x a h)
 
-      module _ (said : Absent ≡ saidIn (c .entries)) where
+      module _ (said : Absent ≡ ownAlignment (c .entries)) where
         pub said-default : a ≡ 32 → laid k a room c ≡ aligned k a room c
         said-default h = agreed (ap (canAdd a) (sym said) ∙ rw (eq-eqb a 32 h)) (ap (agrees a) (sym said))
 
@@ -101,16 +101,16 @@ module _ (k : Dialect) (a room : ℕ) (c : Records) where
         can-add other h = agreed (ap (canAdd a) (sym said) ∙ rw (ne-eqb a 32 other, le-leb a 4294967295 h)) (ap (agrees a) (sym said))
 
   -- what a draft of it is
-  pub drafted : {d : Draft} {b : Bool} → d ≡ draftWith b c → adds a (saidIn (c .entries)) ≡ b → d ≡ draftOf a c
+  pub drafted : {d : Draft} {b : Bool} → d ≡ draftWith b c → adds a (ownAlignment (c .entries)) ≡ b → d ≡ draftOf a c
   drafted e f = e ∙ ap (λ t. draftWith t c) (sym f)
 
-  pub said-adds : {x : ℕ} → By x ≡ saidIn (c .entries) → adds a (saidIn (c .entries)) ≡ false
+  pub said-adds : {x : ℕ} → Own x ≡ ownAlignment (c .entries) → adds a (ownAlignment (c .entries)) ≡ false
   said-adds e = ap (adds a) (sym e)
 
-  pub default-adds : Absent ≡ saidIn (c .entries) → a ≡ 32 → adds a (saidIn (c .entries)) ≡ false
+  pub default-adds : Absent ≡ ownAlignment (c .entries) → a ≡ 32 → adds a (ownAlignment (c .entries)) ≡ false
   default-adds e h = ap (adds a) (sym e) ∙ rw (eq-eqb a 32 h)
 
-  pub other-adds : Absent ≡ saidIn (c .entries) → (a ≡ 32 → ⊥) → adds a (saidIn (c .entries)) ≡ true
+  pub other-adds : Absent ≡ ownAlignment (c .entries) → (a ≡ 32 → ⊥) → adds a (ownAlignment (c .entries)) ≡ true
   other-adds e h = ap (adds a) (sym e) ∙ rw (ne-eqb a 32 h)
 
   -- The tensors and the counts.

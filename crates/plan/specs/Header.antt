@@ -14,69 +14,69 @@ use Rattle.layout.specs.Layout.{Piece, nothingLaid, laidAfter}
 use Rattle.values.specs.declared.Dialect.{Dialect}
 use Rattle.values.specs.Format.{isWord, alignmentKey}
 use Rattle.tensors.specs.Format.{lengths}
-use Rattle.values.specs.Contents.{Said, one, word, Entered}
-use Rattle.tensors.specs.Contents.{Weight}
-use Rattle.header.specs.Contents.{Sheet, headerBytes, alignmentSaid}
-use Rattle.sheet.specs.Format.{Line, Drawn}
+use Rattle.values.specs.Contents.{ValueContent, aScalar, aText, EntryContent}
+use Rattle.tensors.specs.Contents.{TensorContent, contentOf}
+use Rattle.header.specs.Contents.{Contents, headerBytes, contentAlignment}
+use Rattle.sheet.specs.Format.{SheetEntry, SheetTensor}
 use Rattle.sheet.specs.Sheet.{Records}
-use Rattle.plan.specs.declared.SaidAlignment.{SaidAlignment}
-use Rattle.plan.specs.declared.SaidAlignment.the-variants.{By, Absent}
+use Rattle.plan.specs.declared.OwnAlignment.{OwnAlignment}
+use Rattle.plan.specs.declared.OwnAlignment.the-variants.{Own, Absent}
 
 -- what a sheet says of the alignment, after one entry more
-abbrev pub saidWith : SaidAlignment → Line → SaidAlignment
-saidWith z e = if isWord alignmentKey (e .entered .key) then By (alignmentSaid (e .entered .said)) else z
+abbrev pub ownAlignmentWith : OwnAlignment → SheetEntry → OwnAlignment
+ownAlignmentWith z e = if isWord alignmentKey (e .content .key) then Own (contentAlignment (e .content .value)) else z
 
 -- the alignment that a reader will find in a sheet's own entry of it, if there is one
-abbrev pub saidIn : List Line → SaidAlignment
-saidIn es = fold saidWith Absent es
+abbrev pub ownAlignment : List SheetEntry → OwnAlignment
+ownAlignment es = fold ownAlignmentWith Absent es
 
 -- an alignment other than 32 that the sheet does not say itself must be added
-abbrev pub adds : ℕ → SaidAlignment → Bool
-adds a (By x) = false
+abbrev pub adds : ℕ → OwnAlignment → Bool
+adds a (Own x) = false
 adds a Absent = not (eqb a 32)
 
 -- the entry that says it, as a u32
-abbrev pub alignmentEntry : ℕ → Entered
-alignmentEntry a = record { key = alignmentKey; said = one 4 a }
+abbrev pub alignmentEntry : ℕ → EntryContent
+alignmentEntry a = record { key = alignmentKey; value = aScalar 4 a }
 
 -- it stands before the first key that it comes before
-abbrev pub inserted : ℕ → List Entered → List Entered
+abbrev pub inserted : ℕ → List EntryContent → List EntryContent
 inserted a [] = alignmentEntry a ∷ []
 inserted a (e ∷ es) = if before alignmentKey (e .key) then alignmentEntry a ∷ e ∷ es else e ∷ inserted a es
 
-abbrev pub enteredIn : Line → Entered
-enteredIn e = e .entered
+abbrev pub entryIn : SheetEntry → EntryContent
+entryIn e = e .content
 
 -- the entries of the header, with the alignment's own or without it
-abbrev pub entriesWith : Bool → ℕ → List Line → List Entered
-entriesWith adding a es = if adding then inserted a (map enteredIn es) else map enteredIn es
+abbrev pub entriesWith : Bool → ℕ → List SheetEntry → List EntryContent
+entriesWith adding a es = if adding then inserted a (map entryIn es) else map entryIn es
 
-abbrev pub entriesOf : ℕ → List Line → List Entered
-entriesOf a es = entriesWith (adds a (saidIn es)) a es
+abbrev pub entriesOf : ℕ → List SheetEntry → List EntryContent
+entriesOf a es = entriesWith (adds a (ownAlignment es)) a es
 
 -- a tensor as it is laid, and as it is written at an offset
-abbrev pub pieceOf : Drawn → Piece
+abbrev pub pieceOf : SheetTensor → Piece
 pieceOf t = record { lengths = lengths (t .parts .shape); kind = t .parts .kind }
 
-abbrev pub weightAt : Drawn → ℕ → Weight
-weightAt t offset = record { name = t .name; shape = t .parts .shape; kind = t .parts .kind; offset = offset }
+abbrev pub contentAt : SheetTensor → ℕ → TensorContent
+contentAt t offset = contentOf (t .name) (t .parts .shape) (t .parts .kind) offset
 
 -- what is laid after a tensor
-abbrev pub laidWith : ℕ → Laid → Drawn → Laid
+abbrev pub laidWith : ℕ → Laid → SheetTensor → Laid
 laidWith a laid t = laidAfter a laid (lengths (t .parts .shape)) (t .parts .kind)
 
 -- tensors after what is laid, each at the next offset
-abbrev pub weightsFrom : ℕ → Laid → List Drawn → List Weight
-weightsFrom a laid [] = []
-weightsFrom a laid (t ∷ ts) = weightAt t (laid .next) ∷ weightsFrom a (laidWith a laid t) ts
+abbrev pub laidFrom : ℕ → Laid → List SheetTensor → List TensorContent
+laidFrom a laid [] = []
+laidFrom a laid (t ∷ ts) = contentAt t (laid .next) ∷ laidFrom a (laidWith a laid t) ts
 
 -- the header's sheet, at the alignment a
-abbrev pub sheetFor : ℕ → Records → Sheet
-sheetFor a c = record { entries = entriesOf a (c .entries); tensors = weightsFrom a nothingLaid (c .tensors) }
+abbrev pub headerContents : ℕ → Records → Contents
+headerContents a c = record { entries = entriesOf a (c .entries); tensors = laidFrom a nothingLaid (c .tensors) }
 
 -- where the header ends, and where its data starts
 abbrev pub endOf : Dialect → ℕ → Records → ℕ
-endOf k a c = length (headerBytes k (sheetFor a c))
+endOf k a c = length (headerBytes k (headerContents a c))
 
 abbrev pub startOf : Dialect → ℕ → Records → ℕ
 startOf k a c = padded a (endOf k a c)
@@ -84,9 +84,9 @@ startOf k a c = padded a (endOf k a c)
 -- What single steps read.
 
 -- what a value says; of none, nothing
-abbrev pub heard : {I : Type 0} → Answer (Said I) → Said I
-heard (accepted c q) = c
-heard (refused n p) = word []
+abbrev pub contentRead : {I : Type 0} → Answer (ValueContent I) → ValueContent I
+contentRead (accepted c q) = c
+contentRead (refused n p) = aText []
 
 -- what a sheet that is well formed says
 abbrev pub recordsIn : Answer Records → Records

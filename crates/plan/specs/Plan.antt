@@ -18,15 +18,15 @@ use Rattle.layout.specs.Layout.{Layout, laidOut, refusedAt, layoutOf}
 use Rattle.values.specs.declared.Dialect.{Dialect}
 use Rattle.start.specs.Format.{knownVersion}
 use Rattle.sheet.specs.Sheet.{Records, sheetOf}
-use Rattle.plan.specs.declared.SaidAlignment.{SaidAlignment}
-use Rattle.plan.specs.declared.SaidAlignment.the-variants.{By, Absent}
+use Rattle.plan.specs.declared.OwnAlignment.{OwnAlignment}
+use Rattle.plan.specs.declared.OwnAlignment.the-variants.{Own, Absent}
 use Rattle.plan.specs.declared.Draft.{Draft}
 use Rattle.plan.specs.declared.Plan.{Plan}
 use Rattle.plan.specs.declared.Planned.{Planned}
 use Rattle.plan.specs.declared.Planned.the-variants.{Fine, Refused}
 use Rattle.plan.specs.declared.LaidOut.{LaidOut}
 use Rattle.plan.specs.declared.LaidOut.the-variants.{Fits, Refused as NotLaid}
-use Rattle.plan.specs.Header.{saidIn, adds, entriesOf, pieceOf, endOf, startOf}
+use Rattle.plan.specs.Header.{ownAlignment, adds, entriesOf, pieceOf, endOf, startOf}
 
 -- what follows a test where it holds, and else the refusal
 abbrev pub require : {A : Type 0} → Bool → A → A → A
@@ -43,12 +43,12 @@ abbrev pub isAlignment : ℕ → Bool
 isAlignment a = if eqb a 0 then false else eqb (a % 8) 0
 
 -- an alignment that is added is a u32
-abbrev pub canAdd : ℕ → SaidAlignment → Bool
+abbrev pub canAdd : ℕ → OwnAlignment → Bool
 canAdd a said = if adds a said then leb a 4294967295 else true
 
 -- the sheet's own alignment is the caller's
-abbrev pub agrees : ℕ → SaidAlignment → Bool
-agrees a (By x) = eqb x a
+abbrev pub agrees : ℕ → OwnAlignment → Bool
+agrees a (Own x) = eqb x a
 agrees a Absent = true
 
 -- the first tensor that can't be laid, if there is one
@@ -70,7 +70,7 @@ abbrev pub draftWith : Bool → Records → Draft
 draftWith adding c = record { entries = length (c .entries); tensors = length (c .tensors); first = c .first; adds = adding }
 
 abbrev pub draftOf : ℕ → Records → Draft
-draftOf a c = draftWith (adds a (saidIn (c .entries))) c
+draftOf a c = draftWith (adds a (ownAlignment (c .entries))) c
 
 -- and where the header ends, and where its data starts
 abbrev pub planOf : Dialect → ℕ → Records → Plan
@@ -83,8 +83,8 @@ planFor k a room s =
     require (knownVersion (k .version)) (Refused 30 0)
     (requireFormed (sheetOf s) 31 (λ c.
     require (isAlignment a) (Refused 32 0)
-    (require (canAdd a (saidIn (c .entries))) (Refused 33 0)
-    (require (agrees a (saidIn (c .entries))) (Refused 34 0)
+    (require (canAdd a (ownAlignment (c .entries))) (Refused 33 0)
+    (require (agrees a (ownAlignment (c .entries))) (Refused 34 0)
     (requireLaid (laidOf (layoutOf a (map pieceOf (c .tensors))))
     (require (countsFit k (length (entriesOf a (c .entries))) (length (c .tensors))) (Refused 37 0)
     (require (leb (startOf k a c) room) (Refused 38 0)

@@ -12,7 +12,7 @@ use Rattle.plan.specs.declared.Planned.{Planned}
 use Rattle.plan.specs.declared.Planned.the-variants.{Fine, Refused}
 use Rattle.plan.specs.declared.Room.{Room}
 use Rattle.plan.specs.declared.Room.the-variants.{Left, Over}
-use Rattle.plan.specs.Header.{saidIn, entriesOf, pieceOf, startOf}
+use Rattle.plan.specs.Header.{ownAlignment, entriesOf, pieceOf, startOf}
 use Rattle.plan.specs.Plan.{require, isAlignment, canAdd, agrees, laidOf, requireLaid, countsFit, planOf}
 
 -- the test of the room
@@ -29,8 +29,8 @@ laid k a room c =
 abbrev pub aligned : Dialect → ℕ → ℕ → Records → Planned
 aligned k a room c =
     require (isAlignment a) (Refused 32 0)
-    (require (canAdd a (saidIn (c .entries))) (Refused 33 0)
-    (require (agrees a (saidIn (c .entries))) (Refused 34 0)
+    (require (canAdd a (ownAlignment (c .entries))) (Refused 33 0)
+    (require (agrees a (ownAlignment (c .entries))) (Refused 34 0)
     (laid k a room c)))
 
 -- what is left of a room when n bytes are taken from it

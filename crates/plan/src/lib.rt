@@ -1,7 +1,7 @@
 // Whether a sheet can be written as a header, and how long that header is: everything that a writer has to know before it touches its output.
 use fields::Number;
 use fields::Width;
-use kinds::Whole;
+use kinds::Bounded;
 use layout::Laid;
 use layout::Placed;
 use values::Dialect;
@@ -19,13 +19,13 @@ ghost use lib.ListN.{length};
 ghost use Rattle.reading.specs.Choice.{if_then_else_};
 ghost use Rattle.reading.specs.Reading.{run, isAccepted};
 ghost use Rattle.reading.specs.Each.{times};
-ghost use Rattle.reading.specs.Back.{got, rows};
+ghost use Rattle.reading.specs.Back.{got, bytesOfAll};
 ghost use Rattle.layout.specs.Layout.{placeOf, layoutOf};
 ghost use Rattle.values.specs.Format.{isWord, alignmentKey, depth, sizeWidth};
 ghost use Rattle.tensors.specs.Format.{lengths};
-ghost use Rattle.values.specs.Contents.{saidBytes, entryBytes};
+ghost use Rattle.values.specs.Contents.{valueBytes, entryBytes};
 ghost use Rattle.tensors.specs.Contents.{tensorBytes};
-ghost use Rattle.header.specs.Contents.{alignmentSaid};
+ghost use Rattle.header.specs.Contents.{contentAlignment};
 ghost use Rattle.sheet.specs.Format as format;
 ghost use Rattle.sheet.specs.declared.Stepped.the-variants.{To};
 ghost use Rattle.sheet.specs.Sheet.{sheetOf, stepOf};
@@ -36,8 +36,8 @@ ghost use Rattle.plan.specs.Plan as plan_of;
 ghost use Rattle.plan.specs.Steps as steps;
 
 // The alignment that a sheet says itself, if it does.
-pub enum SaidAlignment {
-    By { alignment: u64 },
+pub enum OwnAlignment {
+    Own { alignment: u64 },
     Absent,
 }
 
@@ -86,7 +86,7 @@ fn is_alignment(text: &[u8]) -> bool
 // The alignment that a value gives a reader. It is of the type form and ends at end.
 fn value_alignment(s: &[u8], at: usize, end: usize, form: u64) -> u64
     requires { ⌜ isAccepted (run (format.value end form) (now s) at) ≡ true ⌝ }
-    ensures { λ r. ⌜ r ≡ alignmentSaid (header_of.heard (run (format.value end form) (now (s .entry)) at)) ⌝ }
+    ensures { λ r. ⌜ r ≡ contentAlignment (header_of.contentRead (run (format.value end form) (now (s .entry)) at)) ⌝ }
 {
     match scalars::scalar_width(form) {
         ScalarWidth::None => 32,
@@ -100,19 +100,19 @@ fn value_alignment(s: &[u8], at: usize, end: usize, form: u64) -> u64
 }
 
 // The alignment that n entries, which are all there, say.
-fn said_alignment(s: &[u8], n: usize) -> SaidAlignment
+fn own_alignment(s: &[u8], n: usize) -> OwnAlignment
     requires { ⌜ isAccepted (run (times n format.metadata) (now s) 1) ≡ true ⌝ }
-    ensures { λ r. ⌜ r ≡ header_of.saidIn (got (run (times n format.metadata) (now (s .entry)) 1)) ⌝ }
+    ensures { λ r. ⌜ r ≡ header_of.ownAlignment (got (run (times n format.metadata) (now (s .entry)) 1)) ⌝ }
 {
     let mut from: usize = 1;
-    let mut said = SaidAlignment::Absent;
+    let mut said = OwnAlignment::Absent;
     let mut i: usize = 0;
     while i < n {
-        let entry = sheet::entry_again(s, from);
+        let entry = sheet::known_entry(s, from);
         let parts = entry.parts;
         let key = parts.key;
         if is_alignment(values::inside(s, key)) {
-            said = SaidAlignment::By {
+            said = OwnAlignment::Own {
                 alignment: value_alignment(s, parts.value, entry.next, parts.form),
             };
         }
@@ -193,7 +193,7 @@ fn take_from(room: Room, n: usize) -> Room
 // The room without an array, as it will stand in the header: items keep their bytes there, but for the sizes of texts.
 fn array_room(room: Room, s: &[u8], at: usize, end: usize, dialect: Dialect) -> Room
     requires { ⌜ To end ≡ stepOf (run (format.array depth (format.item depth)) (now s) at) ⌝ }
-    ensures { λ r. ⌜ r ≡ steps.takenFrom room (length (saidBytes (suc depth) dialect (header_of.heard (run (format.array depth (format.item depth)) (now (s .entry)) at)))) ⌝ }
+    ensures { λ r. ⌜ r ≡ steps.takenFrom room (length (valueBytes (suc depth) dialect (header_of.contentRead (run (format.array depth (format.item depth)) (now (s .entry)) at)))) ⌝ }
 {
     let Number::Value { value: t, next: p } = fields::number_at(s, at, Width::One, true) else {
         return room;
@@ -214,7 +214,7 @@ fn array_room(room: Room, s: &[u8], at: usize, end: usize, dialect: Dialect) -> 
 // The room without a value, which is of the type form and ends at end.
 fn value_room(room: Room, s: &[u8], at: usize, end: usize, form: u64, dialect: Dialect) -> Room
     requires { ⌜ To end ≡ stepOf (run (format.value end form) (now s) at) ⌝ }
-    ensures { λ r. ⌜ r ≡ steps.takenFrom room (length (saidBytes (suc depth) dialect (header_of.heard (run (format.value end form) (now (s .entry)) at)))) ⌝ }
+    ensures { λ r. ⌜ r ≡ steps.takenFrom room (length (valueBytes (suc depth) dialect (header_of.contentRead (run (format.value end form) (now (s .entry)) at)))) ⌝ }
 {
     if form == 9 {
         return array_room(room, s, at, end, dialect);
@@ -229,7 +229,7 @@ fn value_room(room: Room, s: &[u8], at: usize, end: usize, form: u64, dialect: D
 // The room without an entry.
 fn entry_room(room: Room, s: &[u8], parts: EntryParts, end: usize, dialect: Dialect) -> Room
     requires { ⌜ To end ≡ stepOf (run (format.value end (parts .form)) (now s) (parts .value)) ⌝ }
-    ensures { λ r. ⌜ r ≡ steps.takenFrom room (sizeWidth dialect + 4 + parts .key .len + length (saidBytes (suc depth) dialect (header_of.heard (run (format.value end (parts .form)) (now (s .entry)) (parts .value))))) ⌝ }
+    ensures { λ r. ⌜ r ≡ steps.takenFrom room (sizeWidth dialect + 4 + parts .key .len + length (valueBytes (suc depth) dialect (header_of.contentRead (run (format.value end (parts .form)) (now (s .entry)) (parts .value))))) ⌝ }
 {
     let key = parts.key;
     let named = take_from(take_from(room, size_width(dialect) + 4), key.len);
@@ -239,13 +239,13 @@ fn entry_room(room: Room, s: &[u8], parts: EntryParts, end: usize, dialect: Dial
 // The room without n entries, which are all there.
 fn entries_room(room: Room, s: &[u8], n: usize, dialect: Dialect) -> Room
     requires { ⌜ isAccepted (run (times n format.metadata) (now s) 1) ≡ true ⌝ }
-    ensures { λ r. ⌜ r ≡ steps.takenFrom room (length (rows (entryBytes dialect) (map header_of.enteredIn (got (run (times n format.metadata) (now (s .entry)) 1))))) ⌝ }
+    ensures { λ r. ⌜ r ≡ steps.takenFrom room (length (bytesOfAll (entryBytes dialect) (map header_of.entryIn (got (run (times n format.metadata) (now (s .entry)) 1))))) ⌝ }
 {
     let mut left = room;
     let mut from: usize = 1;
     let mut i: usize = 0;
     while i < n {
-        let entry = sheet::entry_again(s, from);
+        let entry = sheet::known_entry(s, from);
         left = entry_room(left, s, entry.parts, entry.next, dialect);
         from = entry.next;
         i += 1;
@@ -270,7 +270,7 @@ fn tensor_room(room: Room, parts: TensorParts, dialect: Dialect) -> Room
 // The room without m tensors, which are all there. What their offsets are does not matter.
 fn tensors_room(room: Room, s: &[u8], first: usize, m: usize, dialect: Dialect) -> Room
     requires { ⌜ isAccepted (run (times m format.tensor) (now s) first) ≡ true ⌝ }
-    ensures { λ r. ⌜ ((a : ℕ) (laid : Laid) → r ≡ steps.takenFrom room (length (rows (tensorBytes dialect) (header_of.weightsFrom a laid (got (run (times m format.tensor) (now (s .entry)) first)))))) ⌝ }
+    ensures { λ r. ⌜ ((a : ℕ) (laid : Laid) → r ≡ steps.takenFrom room (length (bytesOfAll (tensorBytes dialect) (header_of.laidFrom a laid (got (run (times m format.tensor) (now (s .entry)) first)))))) ⌝ }
 {
     let mut left = room;
     let mut from = first;
@@ -294,7 +294,7 @@ fn tensors_room(room: Room, s: &[u8], first: usize, m: usize, dialect: Dialect) 
 fn header_room(s: &[u8], dialect: Dialect, draft: Draft, room: usize) -> Room
     requires { ⌜ isAccepted (sheetOf (now s)) ≡ true ⌝ }
     requires { ⌜ draft ≡ plan_of.draftWith (draft .adds) (header_of.recordsIn (sheetOf (now s))) ⌝ }
-    ensures { λ r. ⌜ ((a : ℕ) → draft .adds ≡ header_of.adds a (header_of.saidIn (header_of.recordsIn (sheetOf (now (s .entry))) .entries)) → r ≡ steps.takenFrom (Left room) (header_of.endOf dialect a (header_of.recordsIn (sheetOf (now (s .entry)))))) ⌝ }
+    ensures { λ r. ⌜ ((a : ℕ) → draft .adds ≡ header_of.adds a (header_of.ownAlignment (header_of.recordsIn (sheetOf (now (s .entry))) .entries)) → r ≡ steps.takenFrom (Left room) (header_of.endOf dialect a (header_of.recordsIn (sheetOf (now (s .entry)))))) ⌝ }
 {
     let width = size_width(dialect);
     let added = if draft.adds { width + 25 } else { 0 };
@@ -313,7 +313,7 @@ fn plan_room(s: &[u8], dialect: Dialect, alignment: u64, draft: Draft, room: usi
         return Planned::Refused { why: 38, place: 0 };
     };
     let end = room - bytes;
-    let Whole::Fits { value: start } = layout::pad(alignment, end as u64) else {
+    let Bounded::Fits { value: start } = layout::pad(alignment, end as u64) else {
         return Planned::Refused { why: 38, place: 0 };
     };
     if (room as u64) < start {
@@ -372,14 +372,14 @@ fn plan_alignment(s: &[u8], dialect: Dialect, alignment: u64, draft: Draft, room
     if alignment % 8 != 0 {
         return Planned::Refused { why: 32, place: 0 };
     }
-    match said_alignment(s, draft.entries) {
-        SaidAlignment::By { alignment: said } => {
+    match own_alignment(s, draft.entries) {
+        OwnAlignment::Own { alignment: said } => {
             if said != alignment {
                 return Planned::Refused { why: 34, place: 0 };
             }
             plan_tensors(s, dialect, alignment, draft, room)
         }
-        SaidAlignment::Absent => {
+        OwnAlignment::Absent => {
             if alignment == 32 {
                 return plan_tensors(s, dialect, alignment, draft, room);
             }
@@ -409,7 +409,7 @@ pub fn plan_header(s: &[u8], dialect: Dialect, alignment: u64, room: usize) -> P
     }
     match sheet::check(s) {
         Checked::Bad { place } => Planned::Refused { why: 31, place },
-        Checked::Whole {
+        Checked::WellFormed {
             entries,
             tensors,
             first,

@@ -1,7 +1,7 @@
 -- The known numbers, all of one table: the checker computes each from the definitions. Assumes nothing.
 use mathlib.Core.Path.{refl}
 use Rattle.fields.specs.Bytes.{little, bytesOf}
-use Rattle.reading.specs.Back.{rows}
+use Rattle.reading.specs.Back.{bytesOfAll}
 use Rattle.reading.specs.Each.{each}
 use Rattle.reading.specs.Reading.{run, here, andThen}
 use Rattle.fields.specs.Value.{number}
@@ -9,12 +9,12 @@ use Rattle.kinds.specs.Table.{blockOf}
 use Rattle.layout.specs.Layout.{placeOf, layoutFrom}
 use Rattle.scalars.specs.Scalars.{scalarWidth}
 use Rattle.tensors.specs.Format.{lengthAt, lengthsOf}
-use Rattle.values.specs.Contents.{sizeBytes, textBytes, typeBytes, saidBytes, entryBytes}
-use Rattle.tensors.specs.Contents.{lengthBytes, shapeBytes, storedBytes, tensorBytes}
+use Rattle.values.specs.Contents.{sizeBytes, textBytes, typeBytes, valueBytes, entryBytes}
+use Rattle.tensors.specs.Contents.{lengthBytes, shapeBytes, kindAndOffsetBytes, tensorBytes}
 use Rattle.start.specs.Contents.{startBytes}
 use Rattle.header.specs.Contents.{headerBytes}
 use Rattle.header.proofs.Examples.{no-records, no-records-1, two-tensors, two-tensors-1}
-use Rattle.sheet.specs.Format.{bytes, textOf, text, opening, framed, shape, drawn, tensor}
+use Rattle.sheet.specs.Format.{bytes, textOf, text, opening, framed, shape, tensorBody, tensor}
 use Rattle.sheet.specs.Sheet.{asMany, entriesFrom, tensorsFrom, sheetOf}
 use Rattle.plan.specs.Plan.{planFor}
 use Rattle.writer.specs.Output.{headerFor}
@@ -22,8 +22,8 @@ use Rattle.promises.specs.Known.{Known}
 
 pub known : Known
 unfolding run each number here _>>=_ andThen lengthsOf lengthAt blockOf placeOf layoutFrom
-    sheetOf entriesFrom tensorsFrom asMany text textOf bytes opening framed shape drawn tensor planFor headerFor
-    headerBytes startBytes sizeBytes textBytes typeBytes saidBytes entryBytes lengthBytes shapeBytes storedBytes tensorBytes bytesOf little rows scalarWidth
+    sheetOf entriesFrom tensorsFrom asMany text textOf bytes opening framed shape tensorBody tensor planFor headerFor
+    headerBytes startBytes sizeBytes textBytes typeBytes valueBytes entryBytes lengthBytes shapeBytes kindAndOffsetBytes tensorBytes bytesOf little bytesOfAll scalarWidth
 known = record {
   empty-3 = no-records;
   empty-1 = no-records-1;

@@ -1,9 +1,9 @@
-pub mod Said
-pub mod Fits
-pub mod Back
+pub mod AlignmentKept
+pub mod PlannedFits
+pub mod WrittenReadsBack
 pub mod Sizes
-pub mod Answer
+pub mod WrittenAnswer
 pub mod Offsets
-pub mod Keys
-pub mod Once
+pub mod KeysAscend
+pub mod OneResult
 pub mod Known

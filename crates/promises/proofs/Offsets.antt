@@ -17,18 +17,18 @@ use Rattle.layout.proofs.Facts.{offsets-arranged, offsets-tight}
 use Rattle.layout.proofs.Places.{layout-end, layout-stops, layout-goes-on, placed-by}
 use Rattle.values.specs.declared.Dialect.{Dialect}
 use Rattle.tensors.specs.Format.{lengths}
-use Rattle.tensors.specs.Contents.{Weight}
-use Rattle.sheet.specs.Format.{Drawn}
+use Rattle.tensors.specs.Contents.{TensorContent}
+use Rattle.sheet.specs.Format.{SheetTensor}
 use Rattle.sheet.specs.Sheet.{Records, sheetOf}
 use Rattle.plan.specs.declared.LaidOut.the-variants.{Fits}
-use Rattle.plan.specs.Header.{pieceOf, laidWith, weightsFrom, recordsIn}
+use Rattle.plan.specs.Header.{pieceOf, laidWith, laidFrom, recordsIn}
 use Rattle.plan.specs.Plan.{isAlignment, laidOf}
 use Rattle.writer.specs.declared.HeaderWritten.the-variants.{Written}
 use Rattle.writer.proofs.Planned.{PlannedBy, planned-by}
 use Rattle.promises.specs.Back.{answerFor, piecesIn, offsetsIn}
-use Rattle.promises.proofs.Back.{wrote-plan}
+use Rattle.promises.proofs.WrittenReadsBack.{wrote-plan}
 
-abbrev offsetIn : Weight → ℕ
+abbrev offsetIn : TensorContent → ℕ
 offsetIn t = t .offset
 
 -- the rest of a layout that was accepted
@@ -43,8 +43,8 @@ rest-of o (laidOut others after) {offsets} {laid} e =
     record { others = others; is = ap (laidOut others) same; made = cc }
 rest-of o (refusedAt w i) e = let z : _≡_ {A = ℕ} 0 1 = cc in absurd (omega arith)
 
-offsets-from : (a : ℕ) (before : Laid) (i : ℕ) (ts : List Drawn) {offsets : List ℕ} {laid : Laid} → layoutFrom a before i (map pieceOf ts) ≡ laidOut offsets laid
-    → map offsetIn (weightsFrom a before ts) ≡ offsets
+offsets-from : (a : ℕ) (before : Laid) (i : ℕ) (ts : List SheetTensor) {offsets : List ℕ} {laid : Laid} → layoutFrom a before i (map pieceOf ts) ≡ laidOut offsets laid
+    → map offsetIn (laidFrom a before ts) ≡ offsets
 offsets-from a before i [] {offsets} {laid} e =
     let h : laidOut [] before ≡ laidOut offsets laid = sym (layout-end a before i) ∙ e in
     cc
@@ -52,8 +52,8 @@ offsets-from a before i (t ∷ ts) {offsets} {laid} e =
     by (placeOf a before (lengths (t .parts .shape)) (t .parts .kind)) refl (λ others h. offsets-from a (laidWith a before t) (suc i) ts h)
   where
     by : (p : Placed) → placeOf a before (lengths (t .parts .shape)) (t .parts .kind) ≡ p
-        → ((others : List ℕ) → layoutFrom a (laidWith a before t) (suc i) (map pieceOf ts) ≡ laidOut others laid → map offsetIn (weightsFrom a (laidWith a before t) ts) ≡ others)
-        → map offsetIn (weightsFrom a before (t ∷ ts)) ≡ offsets
+        → ((others : List ℕ) → layoutFrom a (laidWith a before t) (suc i) (map pieceOf ts) ≡ laidOut others laid → map offsetIn (laidFrom a (laidWith a before t) ts) ≡ others)
+        → map offsetIn (laidFrom a before (t ∷ ts)) ≡ offsets
     by (At o s after) f next =
         let p = placed-by a before (lengths (t .parts .shape)) (t .parts .kind) f in
         let r = rest-of o (layoutFrom a after (suc i) (map pieceOf ts)) (sym (layout-goes-on a before i (pieceOf t) (map pieceOf ts) f) ∙ e) in
@@ -67,8 +67,8 @@ offsets-from a before i (t ∷ ts) {offsets} {laid} e =
         absurd (omega arith)
 
 -- of tensors that can be laid, the header's offsets are the layout's: aligned, in order, without overlap, and the least that are so
-pub offsets-computed : (a : ℕ) (ts : List Drawn) {offsets : List ℕ} {laid : Laid} → layoutOf a (map pieceOf ts) ≡ laidOut offsets laid
-    → map (λ (t : Weight). t .offset) (weightsFrom a nothingLaid ts) ≡ offsets
+pub offsets-computed : (a : ℕ) (ts : List SheetTensor) {offsets : List ℕ} {laid : Laid} → layoutOf a (map pieceOf ts) ≡ laidOut offsets laid
+    → map (λ (t : TensorContent). t .offset) (laidFrom a nothingLaid ts) ≡ offsets
 offsets-computed a ts e = offsets-from a nothingLaid 0 ts e
 
 -- a layout that was accepted

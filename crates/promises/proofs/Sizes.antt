@@ -8,15 +8,15 @@ use Rattle.reading.specs.Back.{Along, All, Sure}
 use Rattle.reading.specs.Each.{fold}
 use Rattle.reading.specs.Reading.{accepted}
 use Rattle.reading.specs.declared.Limits.{Limits}
-use Rattle.reading.proofs.Sure.{sure-then, sure-done, sure-here, sure-check, sure-each, sure-under, whatever}
+use Rattle.reading.proofs.SureLaws.{sure-then, sure-done, sure-here, sure-check, sure-each, sure-under, whatever}
 use Rattle.kinds.specs.Shape.{greatest, productOf, productsFit, sizeFits, sizeOf}
 use Rattle.layout.specs.Padding.{padded}
 use Rattle.values.specs.declared.Dialect.{Dialect}
 use Rattle.tensors.specs.declared.Tensor.{Tensor}
 use Rattle.tensors.specs.Format.{lengths, tensor, totalOf}
 use Rattle.start.specs.declared.Rooms.{Rooms}
-use Rattle.header.specs.Answers.{wholeOf}
-use Rattle.header.specs.Format.{latest, Whole, header}
+use Rattle.header.specs.Answers.{readerRun}
+use Rattle.header.specs.Format.{latest, FullHeader, header}
 
 -- the number of numbers, and of bytes, that a shape and a kind come to
 abbrev Measured : Tensor → Type 0
@@ -45,6 +45,6 @@ module _ (s : List ℕ) where
       sure-here _ (sure-check (leb (padded (fold latest 32 es) o) greatest) 18 o _ (λ e. sure-done (each-alone Measured totalOf ts 0 (h .1)))))))
 
 -- whatever the bytes, the ceilings, the cap and the tables are
-pub sizes-read : (limits : Limits) (cap : ℕ) (es ts : List (List ℕ)) (s : List ℕ) {w : Whole} {q : ℕ} → accepted w q ≡ wholeOf limits cap es ts s
+pub sizes-read : (limits : Limits) (cap : ℕ) (es ts : List (List ℕ)) (s : List ℕ) {w : FullHeader} {q : ℕ} → accepted w q ≡ readerRun limits cap es ts s
     → All (λ (t : Tensor). (t .parameters ≡ productOf (lengths (t .shape))) × (t .size ≡ sizeOf (lengths (t .shape)) (t .kind))) (w .tensors)
 sizes-read limits cap es ts s {w} {q} read = sure-under limits (sure-whole s (record { entries = length es; tensors = length ts }) cap 0) .holds w q read

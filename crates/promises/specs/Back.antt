@@ -5,12 +5,12 @@ use lib.ListN.{length}
 use Rattle.reading.specs.Reading.{Answer, accepted, refused, seen}
 use Rattle.layout.specs.Layout.{Piece}
 use Rattle.values.specs.declared.Dialect.{Dialect}
-use Rattle.tensors.specs.Contents.{Weight}
+use Rattle.tensors.specs.Contents.{TensorContent}
 use Rattle.reading.specs.Ceilings.{full}
-use Rattle.header.specs.Answers.{wholeOf}
-use Rattle.header.specs.Contents.{Sheet, Told, toldIn}
+use Rattle.header.specs.Answers.{readerRun}
+use Rattle.header.specs.Contents.{Contents, Summary, summaryIn}
 use Rattle.sheet.specs.Sheet.{sheetOf}
-use Rattle.plan.specs.Header.{pieceOf, sheetFor, recordsIn}
+use Rattle.plan.specs.Header.{pieceOf, headerContents, recordsIn}
 use Rattle.plan.specs.Plan.{planFor}
 use Rattle.writer.specs.declared.HeaderWritten.{HeaderWritten}
 use Rattle.writer.specs.Output.{writtenOf, headerFor, leftBy}
@@ -24,23 +24,23 @@ abbrev pub outputFor : Dialect → ℕ → List ℕ → List ℕ → List ℕ
 outputFor k a s out = leftBy (planFor k a (length out) s) (headerFor k a s) out
 
 -- what the full reader tells of bytes, with this cap and these tables
-abbrev pub readIn : ℕ → List (List ℕ) → List (List ℕ) → List ℕ → Answer Told
-readIn cap es ts bytes = seen (toldIn bytes) (wholeOf full cap es ts bytes)
+abbrev pub readIn : ℕ → List (List ℕ) → List (List ℕ) → List ℕ → Answer Summary
+readIn cap es ts bytes = seen (summaryIn bytes) (readerRun full cap es ts bytes)
 
 -- all that the header holds: the sheet's entries, with the alignment's own where that is added, and its tensors at their offsets
-abbrev pub contentsFor : ℕ → List ℕ → Sheet
-contentsFor a s = sheetFor a (recordsIn (sheetOf s))
+abbrev pub contentsFor : ℕ → List ℕ → Contents
+contentsFor a s = headerContents a (recordsIn (sheetOf s))
 
 -- its tensors as they are laid, and the offsets that they have in it
 abbrev pub piecesIn : List ℕ → List Piece
 piecesIn s = map pieceOf (recordsIn (sheetOf s) .tensors)
 
 abbrev pub offsetsIn : ℕ → List ℕ → List ℕ
-offsetsIn a s = map (λ (t : Weight). t .offset) (contentsFor a s .tensors)
+offsetsIn a s = map (λ (t : TensorContent). t .offset) (contentsFor a s .tensors)
 
 -- what is to be told of it, where it ends and its data starts
-abbrev pub toldFor : Dialect → ℕ → List ℕ → ℕ → ℕ → Told
-toldFor k a s end start = record { dialect = k; sheet = contentsFor a s; alignment = a; end = end; start = start }
+abbrev pub summaryFor : Dialect → ℕ → List ℕ → ℕ → ℕ → Summary
+summaryFor k a s end start = record { dialect = k; sheet = contentsFor a s; alignment = a; end = end; start = start }
 
 -- tables with a row for each of its records
 pub record Enough (a : ℕ) (s : List ℕ) (es ts : List (List ℕ)) : Type 0 where
@@ -48,6 +48,6 @@ pub record Enough (a : ℕ) (s : List ℕ) (es ts : List (List ℕ)) : Type 0 wh
   pub tensors : length (contentsFor a s .tensors) ≤ length ts
 
 -- an answer but for what a version decides: the version itself, where the header ends, and where its data starts
-abbrev pub versionless : Answer Told → Answer Told
+abbrev pub versionless : Answer Summary → Answer Summary
 versionless (accepted t q) = accepted (record { dialect = record { version = 0; big = t .dialect .big }; sheet = t .sheet; alignment = t .alignment; end = 0; start = 0 }) 0
 versionless (refused n p) = refused n p

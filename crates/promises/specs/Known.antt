@@ -13,7 +13,7 @@ use Rattle.tensors.specs.declared.Tensor.{Tensor}
 use Rattle.tensors.specs.Rows.{tensorRow}
 use Rattle.header.specs.declared.Header.{Header}
 use Rattle.reading.specs.Ceilings.{full}
-use Rattle.header.specs.Answers.{wholeOf}
+use Rattle.header.specs.Answers.{readerRun}
 use Rattle.ranges.specs.declared.RangeCheck.the-variants.{Inside, Refused as Outside}
 use Rattle.ranges.specs.Ranges.{checkFrom}
 use Rattle.writer.specs.declared.HeaderWritten.the-variants.{Written, Refused as NotWritten}
@@ -82,11 +82,11 @@ piece n k = record { lengths = n ∷ 1 ∷ 1 ∷ 1 ∷ []; kind = k }
 -- The table. What the writer is given has bytes 255, so that zeros are its own.
 pub record Known : Type 0 where
   -- the empty file: 24 bytes and 16, and the data at 32
-  pub empty-3 : wholeOf full 0 [] [] empty3 ≡ accepted (record { head = plain 3 0 24 32; entries = []; tensors = [] }) 24
-  pub empty-1 : wholeOf full 0 [] [] empty1 ≡ accepted (record { head = plain 1 0 16 32; entries = []; tensors = [] }) 16
+  pub empty-3 : readerRun full 0 [] [] empty3 ≡ accepted (record { head = plain 3 0 24 32; entries = []; tensors = [] }) 24
+  pub empty-1 : readerRun full 0 [] [] empty1 ≡ accepted (record { head = plain 1 0 16 32; entries = []; tensors = [] }) 16
   -- a and b: sizes 20 and 6, offsets 0 and 32; the header ends at 90 and at 74, and the data is at 96
-  pub two-3 : wholeOf full 0 [] ([] ∷ [] ∷ []) tensors3 ≡ accepted (record { head = plain 3 2 90 96; entries = []; tensors = flat 32 0 5 0 20 ∷ flat 65 1 3 32 6 ∷ [] }) 90
-  pub two-1 : wholeOf full 0 [] ([] ∷ [] ∷ []) tensors1 ≡ accepted (record { head = plain 1 2 74 96; entries = []; tensors = flat 20 0 5 0 20 ∷ flat 49 1 3 32 6 ∷ [] }) 74
+  pub two-3 : readerRun full 0 [] ([] ∷ [] ∷ []) tensors3 ≡ accepted (record { head = plain 3 2 90 96; entries = []; tensors = flat 32 0 5 0 20 ∷ flat 65 1 3 32 6 ∷ [] }) 90
+  pub two-1 : readerRun full 0 [] ([] ∷ [] ∷ []) tensors1 ≡ accepted (record { head = plain 1 2 74 96; entries = []; tensors = flat 20 0 5 0 20 ∷ flat 49 1 3 32 6 ∷ [] }) 74
   pub two-laid : layoutOf 32 (piece 5 0 ∷ piece 3 1 ∷ []) ≡ laidOut (0 ∷ 32 ∷ []) (record { total = 8; next = 64 })
   -- a file of 134 bytes holds them, and one of 133 does not hold tensor 1
   pub file-134 : checkFrom 96 134 0 rowsAB ≡ Inside

@@ -1,3 +1,3 @@
-pub mod Turns
+pub mod RangeTurns
 pub mod Meaning
 pub mod Examples

@@ -2,14 +2,14 @@
 use Prim.Native.Nat.{ℕ, suc, _+_}
 use mathlib.Core.List.{List, [], _∷_}
 use lib.Dec.{leb}
-use lib.ListN.{getD}
 use Rattle.reading.specs.Choice.{if_then_else_}
+use Rattle.rows.specs.Columns.{offsetIn, sizeIn}
 use Rattle.ranges.specs.declared.RangeCheck.{RangeCheck}
 use Rattle.ranges.specs.declared.RangeCheck.the-variants.{Inside, Refused}
 
--- where the data of a tensor row ends in the file, as a whole number: its offset is word 8, its size word 9
+-- where the data of a tensor row ends in the file, as a whole number
 abbrev pub endOf : ℕ → List ℕ → ℕ
-endOf start row = start + getD row 8 0 + getD row 9 0
+endOf start row = start + offsetIn row + sizeIn row
 
 -- refusal 20 with the number of the first tensor, counted from i, that ends after the file
 abbrev pub checkFrom : ℕ → ℕ → ℕ → List (List ℕ) → RangeCheck

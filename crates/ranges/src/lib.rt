@@ -1,4 +1,7 @@
 // The range check: whether every tensor's data ends inside the file.
+use rows::OFFSET;
+use rows::SIZE;
+use rows::TensorRow;
 ghost use mathlib.Core.Path.{_≡_};
 ghost use Prim.Native.Nat.{_+_};
 ghost use lib.Dec.{leb};
@@ -9,12 +12,6 @@ pub enum RangeCheck {
     Inside,
     Refused { why: u64, tensor: usize },
 }
-
-// The word of a tensor row that is its offset.
-const OFFSET_WORD: usize = 8;
-
-// The word of a tensor row that is its size.
-const SIZE_WORD: usize = 9;
 
 // Whether data at an offset from start, of so many bytes, ends inside a file. Only differences are made, which cannot wrap.
 fn ends_inside(start: u64, offset: u64, size: u64, file: u64) -> bool
@@ -31,13 +28,13 @@ fn ends_inside(start: u64, offset: u64, size: u64, file: u64) -> bool
 }
 
 // Whether the data of every tensor row ends inside a file of so many bytes, whose data starts at start. The rows may be anyone's.
-pub fn check_ranges(rows: &[[u64; 10]], start: u64, file: u64) -> RangeCheck
+pub fn check_ranges(rows: &[TensorRow], start: u64, file: u64) -> RangeCheck
     ensures { λ r. ⌜ r ≡ checkFrom start file 0 (now (rows .entry)) ⌝ }
 {
     let mut i: usize = 0;
     while i < rows.len() {
         let row = rows[i];
-        if !ends_inside(start, row[OFFSET_WORD], row[SIZE_WORD], file) {
+        if !ends_inside(start, row[OFFSET], row[SIZE], file) {
             return RangeCheck::Refused { why: 20, tensor: i };
         }
         i += 1;

@@ -1,6 +1,6 @@
 pub mod Pieces
-pub mod Turns
-pub mod Back
-pub mod Ceilings
-pub mod Sure
-pub mod Laws
+pub mod Repetition
+pub mod BackLaws
+pub mod CeilingLaws
+pub mod SureLaws
+pub mod RunLaws

@@ -50,6 +50,6 @@ onlyIf test n (accepted a q) = if test a q then accepted a q else refused n q
 onlyIf test n (refused m p) = refused m p
 
 -- records in a row
-unfoldable pub rows : {C : Type 0} → (C → List ℕ) → List C → List ℕ
-rows enc [] = []
-rows enc (c ∷ cs) = enc c ++ rows enc cs
+unfoldable pub bytesOfAll : {C : Type 0} → (C → List ℕ) → List C → List ℕ
+bytesOfAll enc [] = []
+bytesOfAll enc (c ∷ cs) = enc c ++ bytesOfAll enc cs

@@ -2,6 +2,10 @@
 // and size; beyond the last there is none. Then the same header without its last byte, which is refused and leaves the records blank.
 use reading::Limits;
 use header::HeaderRead;
+use rows::ENTRY_WORDS;
+use rows::EntryRow;
+use rows::TENSOR_WORDS;
+use rows::TensorRow;
 use tensor_records::RecordGot;
 use tensor_records::TensorRecord;
 ghost use mathlib.Core.Path.{_≡_};
@@ -21,7 +25,7 @@ struct Listing {
 }
 
 // Reads a header into two records that are blank before.
-fn list(s: &[u8], entries: &mut [[u64; 7]], rows: &mut [[u64; 10]], blank: TensorRecord) -> Listing
+fn list(s: &[u8], entries: &mut [EntryRow], rows: &mut [TensorRow], blank: TensorRecord) -> Listing
     ensures { λ r. ⌜ r ≡ listed (r .answer) (recordsIn (now (entries .entry)) (now (rows .entry)) blank (now (s .entry))) ⌝ }
     ensures { λ r. ⌜ asHeader (r .answer) ≡ seen (λ w. w .head) (listingOf full 3 (now (entries .entry)) (now (rows .entry)) (blank ∷ blank ∷ []) (now (s .entry))) ⌝ }
 {
@@ -101,9 +105,9 @@ fn print_listing(listing: Listing) {
 
 // Reads a header and prints what was read.
 fn show(s: &[u8]) {
-    let mut entries = [[0u64; 7]; 1];
-    let mut rows = [[0u64; 10]; 2];
-    let blank = tensor_records::record_of([0; 10]);
+    let mut entries = [[0u64; ENTRY_WORDS]; 1];
+    let mut rows = [[0u64; TENSOR_WORDS]; 2];
+    let blank = tensor_records::record_of([0; TENSOR_WORDS]);
     print_listing(list(s, &mut entries, &mut rows, blank));
 }
 

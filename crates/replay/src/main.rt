@@ -9,6 +9,21 @@ use fields::Width;
 use header::Header;
 use header::HeaderRead;
 use libc::STDOUT_FILENO;
+use rows::ENTRY_WORDS;
+use rows::EntryRow;
+use rows::FIRST_ITEM;
+use rows::ITEM_TYPE;
+use rows::KEPT;
+use rows::KEY_LENGTH;
+use rows::KEY_PLACE;
+use rows::NAME_LENGTH;
+use rows::NAME_PLACE;
+use rows::SCALAR;
+use rows::STRING_LENGTH;
+use rows::STRING_PLACE;
+use rows::TENSOR_WORDS;
+use rows::TensorRow;
+use rows::VALUE_TYPE;
 use values::Dialect;
 use values::Entry;
 use scalars::ScalarWidth;
@@ -144,11 +159,11 @@ fn same_scalar(answer: &[u8], at: usize, t: u64, word: u64) -> usize {
 fn word_of(t: u64, bits: u64) -> u64 {
     let entry = Entry {
         key: Span { place: 0, len: 0 },
-        aligns: false,
+        is_alignment: false,
         value: Value::Single(scalars::scalar_of(t, bits)),
     };
     let row = values::entry_row(entry);
-    row[3]
+    row[SCALAR]
 }
 
 // The place after the item of an array that stands at a place of the input.
@@ -227,28 +242,28 @@ fn same_items(
 }
 
 // The value of an entry's row.
-fn same_value(answer: &[u8], at: usize, input: &[u8], row: [u64; 7], dialect: Dialect) -> usize {
-    match row[2] {
+fn same_value(answer: &[u8], at: usize, input: &[u8], row: EntryRow, dialect: Dialect) -> usize {
+    match row[VALUE_TYPE] {
         8 => {
             let p = same_word(answer, at, TEXT);
-            same_text(answer, p, text_in(input, row[3], row[4]))
+            same_text(answer, p, text_in(input, row[STRING_PLACE], row[STRING_LENGTH]))
         }
         9 => {
             let p = same_word(answer, at, LIST);
-            let q = same_word(answer, p, row[5]);
-            same_items(answer, q, input, row[6] as usize, row[5], row[3], dialect)
+            let q = same_word(answer, p, row[KEPT]);
+            same_items(answer, q, input, row[FIRST_ITEM] as usize, row[KEPT], row[ITEM_TYPE], dialect)
         }
-        t => same_scalar(answer, at, t, row[3]),
+        t => same_scalar(answer, at, t, row[SCALAR]),
     }
 }
 
 // The number of the last row of a key, or the count of rows where there is none.
-fn last_of(input: &[u8], rows: &[[u64; 7]], key: &[u8]) -> usize {
+fn last_of(input: &[u8], rows: &[EntryRow], key: &[u8]) -> usize {
     let mut found = rows.len();
     let mut i: usize = 0;
     while i < rows.len() {
         let row = rows[i];
-        if is_same(text_in(input, row[0], row[1]), key) {
+        if is_same(text_in(input, row[KEY_PLACE], row[KEY_LENGTH]), key) {
             found = i;
         }
         i += 1;
@@ -257,10 +272,10 @@ fn last_of(input: &[u8], rows: &[[u64; 7]], key: &[u8]) -> usize {
 }
 
 // 1 for the last row of a key, and 0 for any other.
-fn survives(input: &[u8], rows: &[[u64; 7]], row: [u64; 7], i: usize) -> u64
+fn survives(input: &[u8], rows: &[EntryRow], row: EntryRow, i: usize) -> u64
     ensures { λ r. ⌜ r ≤ 1 ⌝ }
 {
-    if last_of(input, rows, text_in(input, row[0], row[1])) == i {
+    if last_of(input, rows, text_in(input, row[KEY_PLACE], row[KEY_LENGTH])) == i {
         1
     } else {
         0
@@ -268,7 +283,7 @@ fn survives(input: &[u8], rows: &[[u64; 7]], row: [u64; 7], i: usize) -> u64
 }
 
 // How many keys the rows have.
-fn distinct(input: &[u8], rows: &[[u64; 7]]) -> u64 {
+fn distinct(input: &[u8], rows: &[EntryRow]) -> u64 {
     let mut keys: u64 = 0;
     let mut i: usize = 0;
     while i < rows.len() {
@@ -283,7 +298,7 @@ fn same_entry(
     answer: &[u8],
     at: usize,
     input: &[u8],
-    rows: &[[u64; 7]],
+    rows: &[EntryRow],
     dialect: Dialect,
 ) -> usize {
     match values::read_string(answer, at, plain()) {
@@ -304,7 +319,7 @@ fn same_entries(
     answer: &[u8],
     at: usize,
     input: &[u8],
-    rows: &[[u64; 7]],
+    rows: &[EntryRow],
     dialect: Dialect,
 ) -> usize {
     let keys = distinct(input, rows);
@@ -318,7 +333,7 @@ fn same_entries(
 }
 
 // The words of a tensor's row after its name.
-fn same_words(answer: &[u8], at: usize, row: [u64; 10]) -> usize {
+fn same_words(answer: &[u8], at: usize, row: TensorRow) -> usize {
     let mut p = at;
     let mut i: usize = 2;
     while i < 10 {
@@ -329,12 +344,12 @@ fn same_words(answer: &[u8], at: usize, row: [u64; 10]) -> usize {
 }
 
 // The tensors' rows, in order.
-fn same_tensors(answer: &[u8], at: usize, input: &[u8], rows: &[[u64; 10]]) -> usize {
+fn same_tensors(answer: &[u8], at: usize, input: &[u8], rows: &[TensorRow]) -> usize {
     let mut p = at;
     let mut i: usize = 0;
     while i < rows.len() {
         let row = rows[i];
-        let q = same_text(answer, p, text_in(input, row[0], row[1]));
+        let q = same_text(answer, p, text_in(input, row[NAME_PLACE], row[NAME_LENGTH]));
         p = same_words(answer, q, row);
         i += 1;
     }
@@ -354,8 +369,8 @@ fn same_header(
     at: usize,
     input: &[u8],
     header: Header,
-    entries: &[[u64; 7]],
-    tensors: &[[u64; 10]],
+    entries: &[EntryRow],
+    tensors: &[TensorRow],
 ) -> usize {
     let dialect = Dialect {
         version: header.version,
@@ -372,8 +387,8 @@ fn same_answer(
     answer: &[u8],
     input: &[u8],
     read: HeaderRead,
-    entries: &[[u64; 7]],
-    tensors: &[[u64; 10]],
+    entries: &[EntryRow],
+    tensors: &[TensorRow],
 ) -> usize {
     match read {
         HeaderRead::Refused { why, place: _ } => same_word(answer, 0, why),
@@ -394,9 +409,9 @@ fn same_answer(
 
 // Whether the reader says of an input all that the original said of it.
 fn agrees(input: &[u8], answer: &[u8]) -> bool {
-    let entry = [0u64; 7];
+    let entry = [0u64; ENTRY_WORDS];
     let mut entries = [entry; 64];
-    let tensor = [0u64; 10];
+    let tensor = [0u64; TENSOR_WORDS];
     let mut tensors = [tensor; 64];
     let limits = Limits {
         versions: 3,

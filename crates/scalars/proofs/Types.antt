@@ -6,7 +6,7 @@ use native.Mathlib.Omega.{arith}
 use lib.ListN.{List·getD-eq-default, length}
 use lib.Dec.{leb, eqb, ltb}
 use borrow.Author.Tests.{leb-true, leb-false}
-use Rattle.kinds.proofs.Rows.{past}
+use Rattle.kinds.proofs.KindTable.{past}
 use Rattle.scalars.specs.Scalars.{scalarWidths, scalarWidth, scalarOf, scalarType}
 
 -- every number below n is as P says

@@ -143,7 +143,7 @@ pub fn natural_of(x: Scalar) -> Natural
 }
 
 // The two's complement of x in 64 bits.
-fn pattern(x: i64) -> u64
+fn to_bits(x: i64) -> u64
     ensures { λ r. ⌜ r ≡ ofZ w64 x ⌝ }
 {
     if x < 0 {
@@ -153,22 +153,22 @@ fn pattern(x: i64) -> u64
     }
 }
 
-fn pattern8(x: i8) -> u64
+fn to_bits8(x: i8) -> u64
     ensures { λ r. ⌜ r ≡ ofZ w64 x ⌝ }
 {
-    pattern(x as i64)
+    to_bits(x as i64)
 }
 
-fn pattern16(x: i16) -> u64
+fn to_bits16(x: i16) -> u64
     ensures { λ r. ⌜ r ≡ ofZ w64 x ⌝ }
 {
-    pattern(x as i64)
+    to_bits(x as i64)
 }
 
-fn pattern32(x: i32) -> u64
+fn to_bits32(x: i32) -> u64
     ensures { λ r. ⌜ r ≡ ofZ w64 x ⌝ }
 {
-    pattern(x as i64)
+    to_bits(x as i64)
 }
 
 // A scalar's type, and its word: the first two of a value's words.
@@ -177,15 +177,15 @@ pub fn scalar_words(x: Scalar) -> [u64; 2]
 {
     match x {
         Scalar::U8(n) => [0, n as u64],
-        Scalar::I8(n) => [1, pattern8(n)],
+        Scalar::I8(n) => [1, to_bits8(n)],
         Scalar::U16(n) => [2, n as u64],
-        Scalar::I16(n) => [3, pattern16(n)],
+        Scalar::I16(n) => [3, to_bits16(n)],
         Scalar::U32(n) => [4, n as u64],
-        Scalar::I32(n) => [5, pattern32(n)],
+        Scalar::I32(n) => [5, to_bits32(n)],
         Scalar::F32(n) => [6, n as u64],
         Scalar::Bool(b) => [7, if b { 1 } else { 0 }],
         Scalar::U64(n) => [10, n],
-        Scalar::I64(n) => [11, pattern(n)],
+        Scalar::I64(n) => [11, to_bits(n)],
         Scalar::F64(n) => [12, n],
     }
 }

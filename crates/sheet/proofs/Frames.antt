@@ -9,11 +9,11 @@ use lib.ListN.{length}
 use borrow.Author.Tests.{leb-false, ne-eqb}
 use Rattle.reading.specs.Choice.{if_then_else_}
 use Rattle.reading.specs.Reading.{Reading, done, Answer, accepted, refused, run, _>>=_, _>>_, here, check, andThen}
-use Rattle.reading.proofs.Laws.{goes-on, run-bind, stops, inside}
+use Rattle.reading.proofs.RunLaws.{goes-on, run-bind, stops, inside}
 use Rattle.sheet.specs.Format.{opening, framed}
 use Rattle.sheet.specs.Sheet.{openedOf}
 use Rattle.sheet.specs.declared.Opened.the-variants.{Body, Bad}
-use Rattle.sheet.proofs.Parts.{sure-opening}
+use Rattle.sheet.proofs.PartsFound.{sure-opening}
 use Rattle.sheet.proofs.Steps.{Refusal}
 
 -- an answer that stays where it ends at e

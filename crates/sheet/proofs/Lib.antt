@@ -1,9 +1,9 @@
 pub mod Steps
-pub mod Items
-pub mod Parts
+pub mod SheetItems
+pub mod PartsFound
 pub mod Frames
-pub mod Many
-pub mod Whole
+pub mod ManyEntries
+pub mod WholeSheet
 pub mod Refusals
-pub mod Fits
+pub mod SheetFits
 pub mod Examples

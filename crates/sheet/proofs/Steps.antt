@@ -7,10 +7,10 @@ use native.Mathlib.Omega.{arith}
 use lib.ListN.{length}
 use Rattle.reading.specs.Reading.{Reading, Answer, accepted, refused, run, andThen, seen, passed, isAccepted}
 use Rattle.reading.specs.Each.{times}
-use Rattle.reading.proofs.Turns.{times-stops, times-passed, times-never}
+use Rattle.reading.proofs.Repetition.{times-stops, times-passed, times-never}
 use Rattle.tensors.specs.declared.Shape.{Shape}
 use Rattle.values.specs.declared.Span.{Span}
-use Rattle.sheet.specs.Format.{Text, Line, Drawn}
+use Rattle.sheet.specs.Format.{Text, SheetEntry, SheetTensor}
 use Rattle.sheet.specs.Sheet.{stepOf, spanOf, entryOf, shapeOf, tensorOf, countOf}
 use Rattle.sheet.specs.declared.EntryParts.{EntryParts}
 use Rattle.sheet.specs.declared.TensorParts.{TensorParts}
@@ -55,10 +55,10 @@ span-yes (accepted t p) {a} {q} e = let k : q ≡ p = cc in record { what = t; i
 span-yes (refused n p) e = let z : _≡_ {A = ℕ} 0 1 = cc in absurd (omega arith)
 
 -- the parts of an entry
-pub entry-no : (r : Answer Line) → NoEntry ≡ entryOf r → Refusal r
+pub entry-no : (r : Answer SheetEntry) → NoEntry ≡ entryOf r → Refusal r
 entry-no r e = only entryOf NoEntry (λ a q h. let z : _≡_ {A = ℕ} 0 1 = cc in absurd (omega arith)) r e
 
-pub entry-yes : (r : Answer Line) {x : EntryParts} {q : ℕ} → FoundEntry x q ≡ entryOf r → Shows (λ (l : Line). l .parts) x q r
+pub entry-yes : (r : Answer SheetEntry) {x : EntryParts} {q : ℕ} → FoundEntry x q ≡ entryOf r → Shows (λ (l : SheetEntry). l .parts) x q r
 entry-yes (accepted l p) {x} {q} e = let k : q ≡ p = cc in record { what = l; is = ap (accepted l) k; told = cc }
 entry-yes (refused n p) e = let z : _≡_ {A = ℕ} 0 1 = cc in absurd (omega arith)
 
@@ -71,10 +71,10 @@ shape-yes (accepted y p) {x} {q} e = cc
 shape-yes (refused n p) e = let z : _≡_ {A = ℕ} 0 1 = cc in absurd (omega arith)
 
 -- the parts of a tensor
-pub tensor-no : (r : Answer Drawn) → NoTensor ≡ tensorOf r → Refusal r
+pub tensor-no : (r : Answer SheetTensor) → NoTensor ≡ tensorOf r → Refusal r
 tensor-no r e = only tensorOf NoTensor (λ a q h. let z : _≡_ {A = ℕ} 0 1 = cc in absurd (omega arith)) r e
 
-pub tensor-yes : (r : Answer Drawn) {x : TensorParts} {q : ℕ} → FoundTensor x q ≡ tensorOf r → Shows (λ (t : Drawn). t .parts) x q r
+pub tensor-yes : (r : Answer SheetTensor) {x : TensorParts} {q : ℕ} → FoundTensor x q ≡ tensorOf r → Shows (λ (t : SheetTensor). t .parts) x q r
 tensor-yes (accepted t p) {x} {q} e = let k : q ≡ p = cc in record { what = t; is = ap (accepted t) k; told = cc }
 tensor-yes (refused n p) e = let z : _≡_ {A = ℕ} 0 1 = cc in absurd (omega arith)
 

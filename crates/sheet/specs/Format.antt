@@ -16,7 +16,7 @@ use Rattle.tensors.specs.declared.Shape.{Shape}
 use Rattle.scalars.specs.Scalars.{scalarWidth}
 use Rattle.values.specs.Format.{depth}
 use Rattle.tensors.specs.Format.{lengthsOf}
-use Rattle.values.specs.Contents.{Said, one, word, list, Content, Entered}
+use Rattle.values.specs.Contents.{ValueContent, aScalar, aText, anArray, Content, EntryContent}
 use Rattle.sheet.specs.declared.EntryParts.{EntryParts}
 use Rattle.sheet.specs.declared.TensorParts.{TensorParts}
 
@@ -63,14 +63,14 @@ abbrev pub itemType : ℕ → ℕ → Bool
 itemType d t = if eqb t 9 then ltb 0 d else leb t 12
 
 -- an array: its item type, its count and its items, in which fewer than d arrays may stand in one another
-unfoldable pub array : (d : ℕ) → (ℕ → Reading (Content d)) → Reading (Said (Content d))
+unfoldable pub array : (d : ℕ) → (ℕ → Reading (Content d)) → Reading (ValueContent (Content d))
 array zero item = bad
 array (suc d) item = do
   t ← number 1 true
   must (itemType d t)
   n ← number 4 true
   l ← times n (item t)
-  done (list t l)
+  done (anArray t l)
 
 -- an item of the type t: a scalar, a text with its length, or an array
 unfoldable pub item : (d : ℕ) → ℕ → Reading (Content d)
@@ -78,10 +78,10 @@ item zero t = bad
 item (suc d) t =
     if ltb 0 (scalarWidth t) then (do
       v ← scalar t
-      done (one t v))
+      done (aScalar t v))
     else if eqb t 8 then (do
       a ← text
-      done (word (a .bytes)))
+      done (aText (a .bytes)))
     else array d (item d)
 
 -- the value of the type t of an entry that ends at e: a scalar, a string, which is all that is left, or an array
@@ -89,11 +89,11 @@ unfoldable pub value : ℕ → ℕ → Reading (Content (suc depth))
 value e t =
     if ltb 0 (scalarWidth t) then (do
       v ← scalar t
-      done (one t v))
+      done (aScalar t v))
     else if eqb t 8 then (do
       p ← here
       a ← textOf (e - p)
-      done (word (a .bytes)))
+      done (aText (a .bytes)))
     else if eqb t 9 then array depth (item depth)
     else bad
 
@@ -116,21 +116,21 @@ framed tag inner = do
   done a
 
 -- a metadata entry: what it says, and where its key and its value are
-pub record Line : Type 0 where
-  pub entered : Entered
+pub record SheetEntry : Type 0 where
+  pub content : EntryContent
   pub parts : EntryParts
 
 -- a key, a type and a value
-unfoldable pub keyed : ℕ → Reading Line
-keyed e = do
+unfoldable pub entryBody : ℕ → Reading SheetEntry
+entryBody e = do
   a ← text
   t ← number 1 true
   p ← here
   c ← value e t
-  done (record { entered = record { key = a .bytes; said = c }; parts = record { key = a .span; form = t; value = p } })
+  done (record { content = record { key = a .bytes; value = c }; parts = record { key = a .span; form = t; value = p } })
 
-unfoldable pub metadata : Reading Line
-metadata = framed 1 keyed
+unfoldable pub metadata : Reading SheetEntry
+metadata = framed 1 entryBody
 
 -- the byte order of the sheet's own numbers; its version does not matter
 abbrev pub bigEnd : Dialect
@@ -144,17 +144,17 @@ shape = do
   lengthsOf bigEnd n
 
 -- a tensor: its name, and where that is; its kind and its shape
-pub record Drawn : Type 0 where
+pub record SheetTensor : Type 0 where
   pub name : List ℕ
   pub parts : TensorParts
 
 -- a name, a kind and a shape
-unfoldable pub drawn : Reading Drawn
-drawn = do
+unfoldable pub tensorBody : Reading SheetTensor
+tensorBody = do
   a ← text
   k ← number 4 true
   x ← shape
   done (record { name = a .bytes; parts = record { name = a .span; kind = k; shape = x } })
 
-unfoldable pub tensor : Reading Drawn
-tensor = framed 2 (λ e. drawn)
+unfoldable pub tensor : Reading SheetTensor
+tensor = framed 2 (λ e. tensorBody)

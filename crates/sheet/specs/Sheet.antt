@@ -10,7 +10,7 @@ use Rattle.reading.specs.Reading.{Reading, done, Answer, accepted, refused, run
 use Rattle.tensors.specs.declared.Shape.{Shape}
 use Rattle.values.specs.declared.Span.{Span}
 use Rattle.values.specs.Contents.{insideOf}
-use Rattle.sheet.specs.Format.{must, Text, Line, metadata, Drawn, tensor}
+use Rattle.sheet.specs.Format.{must, Text, SheetEntry, metadata, SheetTensor, tensor}
 use Rattle.sheet.specs.declared.Stepped.{Stepped}
 use Rattle.sheet.specs.declared.Stepped.the-variants.{To, Bad}
 use Rattle.sheet.specs.declared.Opened.{Opened}
@@ -28,7 +28,7 @@ use Rattle.sheet.specs.declared.TensorFound.the-variants.{Found as Found
 use Rattle.sheet.specs.declared.Counted.{Counted}
 use Rattle.sheet.specs.declared.Counted.the-variants.{Counts, Bad as BadEntry}
 use Rattle.sheet.specs.declared.Checked.{Checked}
-use Rattle.sheet.specs.declared.Checked.the-variants.{Whole, Bad as BadAt}
+use Rattle.sheet.specs.declared.Checked.the-variants.{WellFormed, Bad as BadAt}
 
 -- one more, where it could be read, and those after it; the first that could not is refusal 31 at its start
 abbrev pub consed : {A : Type 0} → Answer A → ℕ → (A → ℕ → Answer (List A)) → Answer (List A)
@@ -59,14 +59,14 @@ lastIn s None = noKey
 lastIn s (At span) = lastKey (insideOf s span)
 
 -- a metadata entry after that key
-unfoldable pub next : Last → Reading Line
+unfoldable pub next : Last → Reading SheetEntry
 next last = do
   e ← metadata
-  must (follows last (e .entered .key))
+  must (follows last (e .content .key))
   done e
 
-abbrev pub keyOf : Last → Line → Last
-keyOf last e = lastKey (e .entered .key)
+abbrev pub keyOf : Last → SheetEntry → Last
+keyOf last e = lastKey (e .content .key)
 
 -- whether the entry at p has the tag of metadata
 abbrev pub isMetadata : List ℕ → ℕ → Bool
@@ -77,18 +77,18 @@ abbrev pub goesOn : List ℕ → ℕ → Bool
 goesOn s p = ltb p (length s)
 
 -- the metadata entries from p on
-unfoldable pub entriesFrom : List ℕ → ℕ → Answer (List Line)
+unfoldable pub entriesFrom : List ℕ → ℕ → Answer (List SheetEntry)
 entriesFrom s p = asMany isMetadata next keyOf (length s) noKey s p
 
 -- the tensors from p on, up to the sheet's end
-unfoldable pub tensorsFrom : List ℕ → ℕ → Answer (List Drawn)
+unfoldable pub tensorsFrom : List ℕ → ℕ → Answer (List SheetTensor)
 tensorsFrom s p = asMany {S = Unit {0}} goesOn (λ z. tensor) (λ z a. z) (length s) tt s p
 
 -- what a sheet says, and where its tensors begin
 pub record Records : Type 0 where
-  pub entries : List Line
+  pub entries : List SheetEntry
   pub first : ℕ
-  pub tensors : List Drawn
+  pub tensors : List SheetTensor
 
 -- the meaning of a sheet, or refusal 31 at its first bad entry, and at 0 for another version
 unfoldable pub sheetOf : List ℕ → Answer Records
@@ -114,7 +114,7 @@ spanOf (accepted a q) = FoundText (a .span) q
 spanOf (refused n p) = NoText
 
 -- the parts of an entry, and the place after it
-abbrev pub entryOf : Answer Line → EntryFound
+abbrev pub entryOf : Answer SheetEntry → EntryFound
 entryOf (accepted e q) = FoundEntry (e .parts) q
 entryOf (refused n p) = NoEntry
 
@@ -124,7 +124,7 @@ shapeOf (accepted x q) = FoundShape x q
 shapeOf (refused n p) = NoShape
 
 -- the parts of a tensor, and the place after it
-abbrev pub tensorOf : Answer Drawn → TensorFound
+abbrev pub tensorOf : Answer SheetTensor → TensorFound
 tensorOf (accepted t q) = FoundTensor (t .parts) q
 tensorOf (refused n p) = NoTensor
 
@@ -135,5 +135,5 @@ countOf (refused n p) = BadEntry p
 
 -- how many metadata entries and how many tensors there are, and where the tensors begin; or the first entry that is bad
 abbrev pub checkedOf : Answer Records → Checked
-checkedOf (accepted c e) = Whole (length (c .entries)) (length (c .tensors)) (c .first)
+checkedOf (accepted c e) = WellFormed (length (c .entries)) (length (c .tensors)) (c .first)
 checkedOf (refused n p) = BadAt p

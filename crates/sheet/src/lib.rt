@@ -1,7 +1,7 @@
 // The record sheet: metadata entries with ascending keys and then tensors, from which a header is written.
 //
 // `check` tells whether a sheet is well formed and how many records it has; `entry_at` and
-// `tensor_at` tell where the parts of one entry are, and `entry_again` those of an entry that was
+// `tensor_at` tell where the parts of one entry are, and `known_entry` those of an entry that was
 // checked before, with no test. Reading a sheet copies nothing: keys, names and values are places
 // in it.
 use fields::Number;
@@ -91,7 +91,7 @@ pub enum Counted {
 
 // How many metadata entries and how many tensors there are, and where the tensors begin; or the start of the first entry that is bad.
 pub enum Checked {
-    Whole {
+    WellFormed {
         entries: usize,
         tensors: usize,
         first: usize,
@@ -266,8 +266,8 @@ fn body_at(s: &[u8], at: usize, tag: u64) -> Opened
 }
 
 // A key, a type and a value, up to the entry's end.
-fn keyed_at(s: &[u8], at: usize, end: usize) -> EntryFound
-    ensures { λ r. ⌜ r ≡ sheet.entryOf (run (format.keyed end) (now (s .entry)) at) ⌝ }
+fn entry_body_at(s: &[u8], at: usize, end: usize) -> EntryFound
+    ensures { λ r. ⌜ r ≡ sheet.entryOf (run (format.entryBody end) (now (s .entry)) at) ⌝ }
 {
     match text_at(s, at) {
         TextFound::Bad => EntryFound::Bad,
@@ -295,7 +295,7 @@ pub fn entry_at(s: &[u8], at: usize) -> EntryFound
 {
     match body_at(s, at, 1) {
         Opened::Bad => EntryFound::Bad,
-        Opened::Body { from, end } => match keyed_at(s, from, end) {
+        Opened::Body { from, end } => match entry_body_at(s, from, end) {
             EntryFound::Bad => EntryFound::Bad,
             EntryFound::Found { parts, next } => {
                 if next == end {
@@ -310,7 +310,7 @@ pub fn entry_at(s: &[u8], at: usize) -> EntryFound
 
 // Where the parts of a metadata entry are that was checked before. It tests nothing and passes no
 // value: the entry's own length tells where it ends.
-pub fn entry_again(s: &[u8], at: usize) -> KnownEntry
+pub fn known_entry(s: &[u8], at: usize) -> KnownEntry
     requires { ⌜ isAccepted (run format.metadata (now s) at) ≡ true ⌝ }
     ensures { λ r. ⌜ Found (r .parts) (r .next) ≡ sheet.entryOf (run format.metadata (now (s .entry)) at) ⌝ }
 {
@@ -349,8 +349,8 @@ fn shape_at(s: &[u8], at: usize) -> ShapeFound
 }
 
 // A name, a kind and a shape.
-fn drawn_at(s: &[u8], at: usize) -> TensorFound
-    ensures { λ r. ⌜ r ≡ sheet.tensorOf (run format.drawn (now (s .entry)) at) ⌝ }
+fn tensor_body_at(s: &[u8], at: usize) -> TensorFound
+    ensures { λ r. ⌜ r ≡ sheet.tensorOf (run format.tensorBody (now (s .entry)) at) ⌝ }
 {
     match text_at(s, at) {
         TextFound::Bad => TensorFound::Bad,
@@ -381,7 +381,7 @@ pub fn tensor_at(s: &[u8], at: usize) -> TensorFound
 {
     match body_at(s, at, 2) {
         Opened::Bad => TensorFound::Bad,
-        Opened::Body { from, end: stop } => match drawn_at(s, from) {
+        Opened::Body { from, end: stop } => match tensor_body_at(s, from) {
             TensorFound::Bad => TensorFound::Bad,
             TensorFound::Found { parts, next } => {
                 if next == stop {
@@ -501,7 +501,7 @@ pub fn check(s: &[u8]) -> Checked
             Counted::Counts {
                 count: tensors,
                 next: _,
-            } => Checked::Whole {
+            } => Checked::WellFormed {
                 entries,
                 tensors,
                 first,

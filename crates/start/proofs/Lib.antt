@@ -1,4 +1,4 @@
 pub mod RowsForCounts
-pub mod Low
-pub mod Back
-pub mod Ends
+pub mod StartMarks
+pub mod StartBack
+pub mod StartEnds

@@ -4,7 +4,7 @@ use mathlib.Core.List.{List}
 use lib.Dec.{leb}
 use borrow.Author.Tests.{leb-true}
 use Rattle.reading.specs.Back.{Sure}
-use Rattle.reading.proofs.Sure.{sure-then, sure-done, sure-here, sure-check, whatever}
+use Rattle.reading.proofs.SureLaws.{sure-then, sure-done, sure-here, sure-check, whatever}
 use Rattle.start.specs.Format.{counts, start}
 use Rattle.start.specs.declared.Rooms.{Rooms}
 use Rattle.start.specs.declared.Start.{Start}

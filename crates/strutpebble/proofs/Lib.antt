@@ -1,2 +1,2 @@
-pub mod Enough
-pub mod Rows
+pub mod RowsEnough
+pub mod NeverReturnsSix

@@ -4,11 +4,13 @@
 // Each returns 0, or a number that says why there is no answer: a refusal's, or a TOLD_ constant of lookup or of words. Each
 // writes all eight words of the answer that it was lent: the answer's own, or of a refusal its place and seven zeros.
 use reading::Limits;
+use rows::EntryRow;
+use rows::TensorRow;
 use start::Rooms;
 use values::Dialect;
 ghost use lib.ListN.{length};
 ghost use mathlib.Core.Path.{_≡_};
-ghost use Rattle.header.specs.Answers.{wholeOf};
+ghost use Rattle.header.specs.Answers.{readerRun};
 ghost use Rattle.lookup.specs.Questions.{architectureKey, fileTypeIn, fileTypeKey, lookup};
 ghost use Rattle.plan.specs.Plan.{planFor};
 ghost use Rattle.ranges.specs.Ranges.{checkFrom};
@@ -36,14 +38,14 @@ pub extern "C" fn sp_read(
     versions: u32,
     kinds: u32,
     cap: u64,
-    entries: &mut [[u64; 7]],
-    tensors: &mut [[u64; 10]],
+    entries: &mut [EntryRow],
+    tensors: &mut [TensorRow],
     answer: &mut [u64; 8],
 ) -> u64
-    ensures { λ r. ⌜ r ≡ numberOf (seen (λ w. w .head) (wholeOf (record { versions = versions; kinds = kinds }) cap (now (entries .entry)) (now (tensors .entry)) (now (prefix .entry)))) ⌝ }
-    ensures { λ r. ⌜ now (answer .exit) ≡ wordsOf (seen (λ w. w .head) (wholeOf (record { versions = versions; kinds = kinds }) cap (now (entries .entry)) (now (tensors .entry)) (now (prefix .entry)))) ⌝ }
-    ensures { λ r. ⌜ now (entries .exit) ≡ filled entryRow (now (entries .entry)) (seen (λ w. w .entries) (wholeOf (record { versions = versions; kinds = kinds }) cap (now (entries .entry)) (now (tensors .entry)) (now (prefix .entry)))) ⌝ }
-    ensures { λ r. ⌜ now (tensors .exit) ≡ filled tensorRow (now (tensors .entry)) (seen (λ w. w .tensors) (wholeOf (record { versions = versions; kinds = kinds }) cap (now (entries .entry)) (now (tensors .entry)) (now (prefix .entry)))) ⌝ }
+    ensures { λ r. ⌜ r ≡ numberOf (seen (λ w. w .head) (readerRun (record { versions = versions; kinds = kinds }) cap (now (entries .entry)) (now (tensors .entry)) (now (prefix .entry)))) ⌝ }
+    ensures { λ r. ⌜ now (answer .exit) ≡ wordsOf (seen (λ w. w .head) (readerRun (record { versions = versions; kinds = kinds }) cap (now (entries .entry)) (now (tensors .entry)) (now (prefix .entry)))) ⌝ }
+    ensures { λ r. ⌜ now (entries .exit) ≡ filled entryRow (now (entries .entry)) (seen (λ w. w .entries) (readerRun (record { versions = versions; kinds = kinds }) cap (now (entries .entry)) (now (tensors .entry)) (now (prefix .entry)))) ⌝ }
+    ensures { λ r. ⌜ now (tensors .exit) ≡ filled tensorRow (now (tensors .entry)) (seen (λ w. w .tensors) (readerRun (record { versions = versions; kinds = kinds }) cap (now (entries .entry)) (now (tensors .entry)) (now (prefix .entry)))) ⌝ }
 {
     let limits = ceilings(versions, kinds);
     let read = header::read(prefix, limits, cap, entries, tensors);
@@ -70,7 +72,7 @@ pub extern "C" fn sp_measure(prefix: &[u8], versions: u32, kinds: u32, answer: &
 // Whether the data of every tensor row ends inside a file: 0, or 20 with the number of the first that does not in answer.
 #[no_mangle]
 pub extern "C" fn sp_check_ranges(
-    tensors: &[[u64; 10]],
+    tensors: &[TensorRow],
     data_start: u64,
     file_length: u64,
     answer: &mut [u64; 8],
@@ -103,7 +105,7 @@ pub extern "C" fn sp_find_string(prefix: &[u8], key: &[u8], answer: &mut [u64; 8
 {
     let found = lookup::find(prefix, key);
     *answer = words::string_words(found);
-    let told = lookup::string_told(found);
+    let told = lookup::string_status(found);
     told[0]
 }
 

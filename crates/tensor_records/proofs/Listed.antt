@@ -10,7 +10,7 @@ use Rattle.reading.specs.Reading.{Answer, accepted, refused, seen}
 use Rattle.reading.specs.declared.Limits.{Limits}
 use Rattle.tensors.specs.Rows.{tensorRow}
 use Rattle.tensors.specs.declared.Tensor.{Tensor}
-use Rattle.header.specs.Format.{Whole}
+use Rattle.header.specs.Format.{FullHeader}
 use Rattle.header.specs.Answers.{asHeader}
 use Rattle.header.specs.declared.Header.{Header}
 use Rattle.header.specs.declared.HeaderRead.{HeaderRead}
@@ -26,7 +26,7 @@ from-rows ys [] h = none-filled ys
 from-rows [] (t ∷ l) h = absurd (omega (arith, h))
 from-rows (y ∷ ys) (t ∷ l) h = ap (λ (k : List TensorRecord). tensorRecord t ∷ k) (from-rows ys l (omega (arith, h)))
 
-by-answer : (ys : List TensorRecord) (rs : List (List ℕ)) (r : HeaderRead) (whole : Answer Whole) → ((w : Whole) (q : ℕ) → accepted w q ≡ whole → (length (w .tensors) ≡ w .head .tensors) × (w .head .tensors ≤ length ys))
+by-answer : (ys : List TensorRecord) (rs : List (List ℕ)) (r : HeaderRead) (whole : Answer FullHeader) → ((w : FullHeader) (q : ℕ) → accepted w q ≡ whole → (length (w .tensors) ≡ w .head .tensors) × (w .head .tensors ≤ length ys))
     → asHeader r ≡ seen (λ w. w .head) whole → filledFrom ys (take (tensorsIn r) (filled tensorRow rs (seen (λ w. w .tensors) whole))) ≡ filled tensorRecord ys (seen (λ w. w .tensors) whole)
 unfolding seen
 by-answer ys rs (FoundHeader h) (accepted w q) many e =

@@ -9,31 +9,28 @@ use Rattle.reading.specs.Reading.{Answer}
 use Rattle.reading.specs.declared.Limits.{Limits}
 use Rattle.tensors.specs.Rows.{tensorRow}
 use Rattle.tensors.specs.declared.Tensor.{Tensor}
-use Rattle.header.specs.Format.{Whole}
-use Rattle.header.specs.Answers.{wholeOf}
+use Rattle.header.specs.Format.{FullHeader}
+use Rattle.header.specs.Answers.{readerRun}
 use Rattle.header.specs.declared.HeaderRead.{HeaderRead}
 use Rattle.header.specs.declared.HeaderRead.the-variants.{Found as FoundHeader, Refused as NoHeader}
+use Rattle.rows.specs.Columns.{word, placeIn, lengthIn, kindIn, dimensionsIn, offsetIn, sizeIn}
 use Rattle.tensor_records.specs.declared.TensorRecord.{TensorRecord}
 use Rattle.tensor_records.specs.declared.RecordGot.{RecordGot}
 use Rattle.tensor_records.specs.declared.RecordGot.the-variants.{Found, Nothing}
 
--- word k of a row
-abbrev word : ℕ → List ℕ → ℕ
-word k row = getD row k 0
-
 -- a row of ten words as a record
 abbrev pub recordOf : List ℕ → TensorRecord
 recordOf row = record {
-  «name_place» = word 0 row;
-  «name_len» = word 1 row;
-  kind = word 2 row;
-  dimensions = word 3 row;
+  «name_place» = placeIn row;
+  «name_len» = lengthIn row;
+  kind = kindIn row;
+  dimensions = dimensionsIn row;
   first = word 4 row;
   second = word 5 row;
   third = word 6 row;
   fourth = word 7 row;
-  offset = word 8 row;
-  size = word 9 row;
+  offset = offsetIn row;
+  size = sizeIn row;
 }
 
 -- whether there is a record with the number i
@@ -68,5 +65,5 @@ abbrev pub tensorRecord : Tensor → TensorRecord
 tensorRecord t = recordOf (tensorRow t)
 
 -- the run that a reader of records answers and fills from: there is room for as many tensors as there are both rows and records
-abbrev pub listingOf : Limits → ℕ → List (List ℕ) → List (List ℕ) → List TensorRecord → List ℕ → Answer Whole
-listingOf limits cap entries rows records s = wholeOf limits cap entries (take (length records) rows) s
+abbrev pub listingOf : Limits → ℕ → List (List ℕ) → List (List ℕ) → List TensorRecord → List ℕ → Answer FullHeader
+listingOf limits cap entries rows records s = readerRun limits cap entries (take (length records) rows) s

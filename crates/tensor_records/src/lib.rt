@@ -3,6 +3,15 @@
 // Each function here is thin: it takes the slice apart and leaves the work to functions over rows. Whoever is content with rows needs none of it.
 use reading::Limits;
 use header::HeaderRead;
+use rows::DIMENSIONS;
+use rows::EntryRow;
+use rows::KIND;
+use rows::LENGTHS;
+use rows::NAME_LENGTH;
+use rows::NAME_PLACE;
+use rows::OFFSET;
+use rows::SIZE;
+use rows::TensorRow;
 ghost use mathlib.Core.Path.{_≡_};
 ghost use mathlib.Core.List.{[]};
 ghost use Prim.Native.Nat.{_<_, min};
@@ -11,7 +20,7 @@ ghost use Rattle.reading.specs.Reading.{seen};
 ghost use Rattle.reading.specs.Each.{filled};
 ghost use Rattle.values.specs.Rows.{entryRow};
 ghost use Rattle.tensors.specs.Rows.{tensorRow};
-ghost use Rattle.header.specs.Answers.{asHeader, wholeOf};
+ghost use Rattle.header.specs.Answers.{asHeader, readerRun};
 ghost use Rattle.tensor_records.specs.Records.{recordOf, gotAt, keptOf, putAt, filledFrom, tensorsIn, tensorRecord, listingOf};
 
 // A tensor's record: where its name is, its kind, its stated count of dimensions, its four lengths, its offset and its size.
@@ -56,20 +65,20 @@ pub fn put(records: &mut [TensorRecord], i: usize, tensor: TensorRecord) -> bool
 }
 
 // A row as a record.
-pub fn record_of(row: [u64; 10]) -> TensorRecord
+pub fn record_of(row: TensorRow) -> TensorRecord
     ensures { λ r. ⌜ r ≡ recordOf row ⌝ }
 {
     TensorRecord {
-        name_place: row[0],
-        name_len: row[1],
-        kind: row[2],
-        dimensions: row[3],
-        first: row[4],
-        second: row[5],
-        third: row[6],
-        fourth: row[7],
-        offset: row[8],
-        size: row[9],
+        name_place: row[NAME_PLACE],
+        name_len: row[NAME_LENGTH],
+        kind: row[KIND],
+        dimensions: row[DIMENSIONS],
+        first: row[LENGTHS],
+        second: row[LENGTHS + 1],
+        third: row[LENGTHS + 2],
+        fourth: row[LENGTHS + 3],
+        offset: row[OFFSET],
+        size: row[SIZE],
     }
 }
 
@@ -88,7 +97,7 @@ fn least(n: usize, rows: usize, records: usize) -> usize
 }
 
 // The record of row i.
-fn record_at(rows: &[[u64; 10]], i: usize) -> TensorRecord
+fn record_at(rows: &[TensorRow], i: usize) -> TensorRecord
     requires { ⌜ i < length (now rows) ⌝ }
     ensures { λ r. ⌜ r ≡ recordOf (getD (now (rows .entry)) i []) ⌝ }
 {
@@ -96,7 +105,7 @@ fn record_at(rows: &[[u64; 10]], i: usize) -> TensorRecord
 }
 
 // Fills the first records from the first n rows, as far as there are both, and tells how many it filled. The other records stay as they were.
-pub fn fill(records: &mut [TensorRecord], rows: &[[u64; 10]], n: usize) -> usize
+pub fn fill(records: &mut [TensorRecord], rows: &[TensorRow], n: usize) -> usize
     ensures { λ r. ⌜ (r ≡ min n (min (length (now (rows .entry))) (length (now (records .entry))))) × (now (records .exit) ≡ filledFrom (now (records .entry)) (take n (now (rows .entry)))) ⌝ }
 {
     let count = least(n, rows.len(), records.len());
@@ -113,13 +122,13 @@ fn read_within(
     s: &[u8],
     limits: Limits,
     cap: u64,
-    entries: &mut [[u64; 7]],
-    rows: &mut [[u64; 10]],
+    entries: &mut [EntryRow],
+    rows: &mut [TensorRow],
     room: usize,
 ) -> HeaderRead
-    ensures { λ r. ⌜ asHeader r ≡ seen (λ w. w .head) (wholeOf limits cap (now (entries .entry)) (take room (now (rows .entry))) (now (s .entry))) ⌝ }
-    ensures { λ r. ⌜ now (entries .exit) ≡ filled entryRow (now (entries .entry)) (seen (λ w. w .entries) (wholeOf limits cap (now (entries .entry)) (take room (now (rows .entry))) (now (s .entry)))) ⌝ }
-    ensures { λ r. ⌜ now (rows .exit) ≡ filled tensorRow (now (rows .entry)) (seen (λ w. w .tensors) (wholeOf limits cap (now (entries .entry)) (take room (now (rows .entry))) (now (s .entry)))) ⌝ }
+    ensures { λ r. ⌜ asHeader r ≡ seen (λ w. w .head) (readerRun limits cap (now (entries .entry)) (take room (now (rows .entry))) (now (s .entry))) ⌝ }
+    ensures { λ r. ⌜ now (entries .exit) ≡ filled entryRow (now (entries .entry)) (seen (λ w. w .entries) (readerRun limits cap (now (entries .entry)) (take room (now (rows .entry))) (now (s .entry)))) ⌝ }
+    ensures { λ r. ⌜ now (rows .exit) ≡ filled tensorRow (now (rows .entry)) (seen (λ w. w .tensors) (readerRun limits cap (now (entries .entry)) (take room (now (rows .entry))) (now (s .entry)))) ⌝ }
 {
     let end = shorter(room, rows.len());
     header::read(s, limits, cap, entries, &mut rows[0..end])
@@ -141,8 +150,8 @@ pub fn read_records(
     s: &[u8],
     limits: Limits,
     cap: u64,
-    entries: &mut [[u64; 7]],
-    rows: &mut [[u64; 10]],
+    entries: &mut [EntryRow],
+    rows: &mut [TensorRow],
     records: &mut [TensorRecord],
 ) -> HeaderRead
     ensures { λ r. ⌜ asHeader r ≡ seen (λ w. w .head) (listingOf limits cap (now (entries .entry)) (now (rows .entry)) (now (records .entry)) (now (s .entry))) ⌝ }

@@ -6,7 +6,7 @@ use mathlib.Core.Path.{_≡_, refl}
 use mathlib.Core.List.{List, [], _∷_}
 use Rattle.reading.specs.Reading.{place, accepted, refused, run, here, _>>=_}
 use Rattle.values.specs.Format.{size, textLooking, text}
-use Rattle.tensors.specs.Format.{lengthAt, lengthsOf, shape, stored, tensor}
+use Rattle.tensors.specs.Format.{lengthAt, lengthsOf, shape, kindAndOffset, tensor}
 use Rattle.fields.specs.Value.{number}
 use Rattle.kinds.specs.Table.{blockOf}
 
@@ -26,10 +26,10 @@ pub a-tensor : run (tensor one-big 5) tensor-b 0 ≡ accepted (record {
   parameters = 3;
   size = 6;
 }) 29
-unfolding run _>>=_ here number size textLooking text lengthsOf lengthAt shape stored tensor blockOf
+unfolding run _>>=_ here number size textLooking text lengthsOf lengthAt shape kindAndOffset tensor blockOf
 a-tensor = refl
 
 -- after others whose products come to 2 ^ 64 - 3 the total is too great, at the tensor's start
 pub a-total-too-great : run (tensor one-big 18446744073709551613) tensor-b 0 ≡ refused 15 0
-unfolding run _>>=_ here number size textLooking text lengthsOf lengthAt shape stored tensor blockOf
+unfolding run _>>=_ here number size textLooking text lengthsOf lengthAt shape kindAndOffset tensor blockOf
 a-total-too-great = refl

@@ -1,7 +1,7 @@
 pub mod Fitting
 pub mod ReadAgain
-pub mod Low
-pub mod Back
-pub mod Sure
+pub mod TensorMarks
+pub mod TensorsBack
+pub mod TensorsFit
 pub mod Examples
 pub mod Totals

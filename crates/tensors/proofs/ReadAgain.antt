@@ -14,21 +14,21 @@ use Rattle.reading.specs.Choice.{if_then_else_}
 use Rattle.reading.specs.Each.{each}
 use Rattle.reading.specs.Reading.{aKind, Answer, accepted, refused, run, here, isAccepted, _>>=_}
 use Rattle.fields.specs.Value.{value, number}
-use Rattle.reading.proofs.Laws.{goes-on}
-use Rattle.reading.proofs.Sure.{sure-then, sure-done, sure-here, sure-mark, sure-check, sure-if, sure-field, sure-so, sure-run, whatever}
-use Rattle.reading.proofs.Turns.{each-never}
+use Rattle.reading.proofs.RunLaws.{goes-on}
+use Rattle.reading.proofs.SureLaws.{sure-then, sure-done, sure-here, sure-mark, sure-check, sure-if, sure-field, sure-so, sure-run, whatever}
+use Rattle.reading.proofs.Repetition.{each-never}
 use Rattle.kinds.specs.Shape.{greatest, productOf, productsFitFrom, productsFit, bytesBefore, sizeFits, sizeOf}
 use Rattle.kinds.specs.Table.{blockOf, knownKind}
-use Rattle.tensors.specs.Format.{lengths, lengthAt, lengthsOf, shape, stored, tensor, totalOf}
+use Rattle.tensors.specs.Format.{lengths, lengthAt, lengthsOf, shape, kindAndOffset, tensor, totalOf}
 use Rattle.values.specs.Format.{sizeWidth, size, textLooking, text}
-use Rattle.tensors.specs.Steps.{lengthThere, shapeThere, inOrder, rest, tensorOf}
+use Rattle.tensors.specs.Steps.{lengthIn, shapeIn, inOrder, afterName, tensorOf}
 use Rattle.kinds.specs.declared.Block.{Block}
 use Rattle.values.specs.declared.Dialect.{Dialect}
 use Rattle.tensors.specs.declared.Shape.{Shape}
 use Rattle.values.specs.declared.Span.{Span}
-use Rattle.tensors.specs.declared.Stored.{Stored}
+use Rattle.tensors.specs.declared.KindAndOffset.{KindAndOffset}
 use Rattle.tensors.specs.declared.Tensor.{Tensor}
-use Rattle.tensors.specs.declared.Again.{Again}
+use Rattle.tensors.specs.declared.AfterName.{AfterName}
 
 -- what an answer that is no refusal holds
 held : {A : Type 0} (r : Answer A) → isAccepted r ≡ true → (a : A) × (q : ℕ) × (accepted a q ≡ r)
@@ -83,7 +83,7 @@ name-ends k s p {a} {q} e = sure-name k s p .holds a q e .ends
 
 -- the length i, where those before it end at p
 sure-length : (s : List ℕ) (big : Bool) (n from i : ℕ) {p : ℕ} → p ≡ from + 8 * min i n → p ≤ length s
-    → Sure s (lengthAt (inOrder big) n i) p (λ v q. (v ≡ lengthThere s from big n i) × (q ≡ from + 8 * min (i + 1) n) × (q ≤ length s))
+    → Sure s (lengthAt (inOrder big) n i) p (λ v q. (v ≡ lengthIn s from big n i) × (q ≡ from + 8 * min (i + 1) n) × (q ≤ length s))
 unfolding lengthAt
 sure-length s big n from i {p} at within =
     sure-if (ltb i n) _ _
@@ -95,7 +95,7 @@ sure-length s big n from i {p} at within =
     let past : n ≤ i = ltb-false i n e in
     sure-done (rw e refl, omega arith, within))
 
-sure-lengths : (s : List ℕ) (big : Bool) (n from : ℕ) → n ≤ 4 → from ≤ length s → Sure s (lengthsOf (inOrder big) n) from (λ x q. (x ≡ shapeThere s from big n) × (q ≡ from + 8 * n) × (q ≤ length s))
+sure-lengths : (s : List ℕ) (big : Bool) (n from : ℕ) → n ≤ 4 → from ≤ length s → Sure s (lengthsOf (inOrder big) n) from (λ x q. (x ≡ shapeIn s from big n) × (q ≡ from + 8 * n) × (q ≤ length s))
 unfolding lengthsOf
 sure-lengths s big n from few within =
     sure-then (sure-length s big n from 0 (omega arith) within) (λ a p f. sure-then (sure-length s big n from 1 (f .1) (f .2)) (λ b q g.
@@ -105,7 +105,7 @@ sure-lengths s big n from few within =
 -- the shape that begins with the dimension count n at p
 record Shaped (s : List ℕ) (p : ℕ) (big : Bool) (n : ℕ) (x : Shape) (q : ℕ) : Type 0 where
   few : n ≤ 4
-  is : x ≡ shapeThere s (p + 4) big n
+  is : x ≡ shapeIn s (p + 4) big n
   after : q ≡ p + 4 + 8 * n
 
 sure-shape : (s : List ℕ) (p : ℕ) (big : Bool) → Sure s (shape (inOrder big)) p (λ x q. Shaped s p big (value big (take 4 (drop p s))) x q)
@@ -116,38 +116,38 @@ sure-shape s p big =
     subst (λ m. Shaped s p big m x r) (h .is) (record { few = leb-true n 4 e; is = rw (h .after) at (g .0); after = omega (arith, h .after, g .1) })))))
 
 -- the kind and the offset at p, of which the kind is known
-record Kept (s : List ℕ) (p : ℕ) (big : Bool) (y : Stored) (q : ℕ) : Type 0 where
+record Kept (s : List ℕ) (p : ℕ) (big : Bool) (y : KindAndOffset) (q : ℕ) : Type 0 where
   inside : p + 12 ≤ length s
   kind : y .kind ≡ value big (take 4 (drop p s))
   offset : y .offset ≡ value big (take 8 (drop (p + 4) s))
   after : q ≡ p + 12
   known : knownKind (y .kind) ≡ true
 
-sure-stored : (s : List ℕ) (p : ℕ) (big : Bool) → Sure s (stored (inOrder big)) p (λ y q. Kept s p big y q)
-unfolding stored
+sure-stored : (s : List ℕ) (p : ℕ) (big : Bool) → Sure s (kindAndOffset (inOrder big)) p (λ y q. Kept s p big y q)
+unfolding kindAndOffset
 sure-stored s p big =
     sure-here _ (sure-then (sure-there s 4 big p) (λ t q h. sure-then (sure-there s 8 big q) (λ o r g. sure-check (knownKind t) 11 p _ (λ e.
     sure-mark aKind t p _ (sure-done (record { inside = omega (arith, h .after, g .inside); kind = h .is; offset = rw (h .after) at (g .is); after = omega (arith, h .after, g .after); known = e }))))))
 
 -- what stands after a name that ends at p, where it begins with the dimension count n
-abbrev pub restThere : List ℕ → ℕ → Bool → ℕ → Again
+abbrev pub restThere : List ℕ → ℕ → Bool → ℕ → AfterName
 restThere s p big n =
     record {
-      shape = shapeThere s (p + 4) big n;
+      shape = shapeIn s (p + 4) big n;
       kind = value big (take 4 (drop (p + 4 + 8 * n) s));
       offset = value big (take 8 (drop (p + 4 + 8 * n + 4) s));
       next = p + 4 + 8 * n + 12;
     }
 
 -- it is there, and its kind is known
-record Rested (s : List ℕ) (p : ℕ) (big : Bool) (n : ℕ) (x : Again) (q : ℕ) : Type 0 where
+record Rested (s : List ℕ) (p : ℕ) (big : Bool) (n : ℕ) (x : AfterName) (q : ℕ) : Type 0 where
   few : n ≤ 4
   inside : p + 4 + 8 * n + 12 ≤ length s
   is : accepted x q ≡ accepted (restThere s p big n) (p + 4 + 8 * n + 12)
   known : knownKind (x .kind) ≡ true
 
-sure-rest : (s : List ℕ) (p : ℕ) (big : Bool) → Sure s (rest big) p (λ x q. Rested s p big (value big (take 4 (drop p s))) x q)
-unfolding rest
+sure-rest : (s : List ℕ) (p : ℕ) (big : Bool) → Sure s (afterName big) p (λ x q. Rested s p big (value big (take 4 (drop p s))) x q)
+unfolding afterName
 sure-rest s p big =
     sure-then (sure-shape s p big) (λ x q h. sure-then (sure-stored s q big) (λ y r g. sure-here _ (sure-done (
     let k = rw (h .after) at (g .kind) in
@@ -159,12 +159,12 @@ sure-rest s p big =
 pub record RestThere (s : List ℕ) (p : ℕ) (big : Bool) (n : ℕ) : Type 0 where
   pub few : n ≤ 4
   pub inside : p + 4 + 8 * n + 12 ≤ length s
-  pub is : accepted (restThere s p big n) (p + 4 + 8 * n + 12) ≡ run (rest big) s p
+  pub is : accepted (restThere s p big n) (p + 4 + 8 * n + 12) ≡ run (afterName big) s p
 
 -- what was accepted after a name is there
-pub rest-there : (s : List ℕ) (p : ℕ) (big : Bool) → isAccepted (run (rest big) s p) ≡ true → {n : ℕ} → n ≡ value big (take 4 (drop p s)) → RestThere s p big n
+pub rest-there : (s : List ℕ) (p : ℕ) (big : Bool) → isAccepted (run (afterName big) s p) ≡ true → {n : ℕ} → n ≡ value big (take 4 (drop p s)) → RestThere s p big n
 rest-there s p big all count =
-    let r = held (run (rest big) s p) all in
+    let r = held (run (afterName big) s p) all in
     let h = sure-rest s p big .holds (r .0) (r .1) (r .2) in
     subst (RestThere s p big) (sym count) (record { few = h .few; inside = h .inside; is = sym (h .is) ∙ r .2 })
 
@@ -175,28 +175,28 @@ order-shape : (k : Dialect) → shape k ≡ shape (inOrder (k .big))
 unfolding shape lengthsOf lengthAt
 order-shape k = refl
 
-order-stored : (k : Dialect) → stored k ≡ stored (inOrder (k .big))
-unfolding stored
+order-stored : (k : Dialect) → kindAndOffset k ≡ kindAndOffset (inOrder (k .big))
+unfolding kindAndOffset
 order-stored k = refl
 
 -- the parts of the tensor t at p, which ends at q, and what fits of it
 record Parts (k : Dialect) (s : List ℕ) (p : ℕ) (t : Tensor) (q : ℕ) : Type 0 where
   name : Span
   middle : ℕ
-  again : Again
+  again : AfterName
   named : accepted name middle ≡ run (text k) s p
-  rested : accepted again (again .next) ≡ run (rest (k .big)) s middle
+  rested : accepted again (again .next) ≡ run (afterName (k .big)) s middle
   ends : again .next ≡ q
   is : tensorOf name again ≡ t
   products : productsFit (lengths (again .shape)) ≡ true
   size : sizeFits (lengths (again .shape)) (again .kind) ≡ true
 
 -- a shape, and then a kind and an offset
-rest-of : (k : Dialect) (s : List ℕ) (p : ℕ) {x : Shape} {q : ℕ} → accepted x q ≡ run (shape k) s p → {y : Stored} {r : ℕ} → accepted y r ≡ run (stored k) s q
-    → accepted (record { shape = x; kind = y .kind; offset = y .offset; next = r }) r ≡ run (rest (k .big)) s p
-unfolding rest here run _>>=_
+rest-of : (k : Dialect) (s : List ℕ) (p : ℕ) {x : Shape} {q : ℕ} → accepted x q ≡ run (shape k) s p → {y : KindAndOffset} {r : ℕ} → accepted y r ≡ run (kindAndOffset k) s q
+    → accepted (record { shape = x; kind = y .kind; offset = y .offset; next = r }) r ≡ run (afterName (k .big)) s p
+unfolding afterName here run _>>=_
 rest-of k s p {x} {q} e {y} {r} f =
-    sym (goes-on (shape (inOrder (k .big))) _ s p (e ∙ ap (λ m. run m s p) (order-shape k)) ∙ goes-on (stored (inOrder (k .big))) _ s q (f ∙ ap (λ m. run m s q) (order-stored k)))
+    sym (goes-on (shape (inOrder (k .big))) _ s p (e ∙ ap (λ m. run m s p) (order-shape k)) ∙ goes-on (kindAndOffset (inOrder (k .big))) _ s q (f ∙ ap (λ m. run m s q) (order-stored k)))
 
 sure-parts : (k : Dialect) (s : List ℕ) (total p : ℕ) → Sure s (tensor k total) p (λ t q. Parts k s p t q)
 unfolding tensor
@@ -217,7 +217,7 @@ sure-parts k s total p =
     }))))))))
 
 -- a name and what stands after it are a tensor, where the total is the one given, and all of it fits
-pub record Found (k : Dialect) (s : List ℕ) (p total : ℕ) (a : Span) (x : Again) : Type 0 where
+pub record Found (k : Dialect) (s : List ℕ) (p total : ℕ) (a : Span) (x : AfterName) : Type 0 where
   pub read : accepted (tensorOf a x) (x .next) ≡ run (tensor k total) s p
   pub known : knownKind (x .kind) ≡ true
   pub products : productsFit (lengths (x .shape)) ≡ true
@@ -252,13 +252,13 @@ module _ (k : Dialect) (s : List ℕ) (p n i total : ℕ) (below : i < n) (all :
     middle : a .place + a .len ≡ next .3 .middle
     middle = let h = same-name in cc
 
-    pub next-rest : isAccepted (run (rest (k .big)) s (a .place + a .len)) ≡ true
+    pub next-rest : isAccepted (run (afterName (k .big)) s (a .place + a .len)) ≡ true
     next-rest = rw middle (ap isAccepted (sym (next .3 .rested)))
 
-    pub found-again : {x : Again} → accepted x (x .next) ≡ run (rest (k .big)) s (a .place + a .len) → Found k s p total a x
+    pub found-again : {x : AfterName} → accepted x (x .next) ≡ run (afterName (k .big)) s (a .place + a .len) → Found k s p total a x
     found-again {x} f =
         let h = same-name in
-        let g = next .3 .rested ∙ ap (run (rest (k .big)) s) (sym middle) ∙ sym f in
+        let g = next .3 .rested ∙ ap (run (afterName (k .big)) s) (sym middle) ∙ sym f in
         let name : next .3 .name ≡ a = cc in
         let again : next .3 .again ≡ x = cc in
         subst (λ b. Found k s p total b x) name (subst (Found k s p total (next .3 .name)) again next-found)

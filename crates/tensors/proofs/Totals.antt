@@ -8,7 +8,7 @@ use Rattle.reading.specs.Back.{Sure}
 use Rattle.reading.specs.Ceilings.{under}
 use Rattle.reading.specs.Reading.{accepted, run}
 use Rattle.reading.specs.declared.Limits.{Limits}
-use Rattle.reading.proofs.Sure.{sure-then, sure-done, sure-here, sure-check, sure-under, whatever}
+use Rattle.reading.proofs.SureLaws.{sure-then, sure-done, sure-here, sure-check, sure-under, whatever}
 use Rattle.kinds.specs.Shape.{greatest, productOf, productsFit, sizeFits}
 use Rattle.tensors.specs.Format.{tensor, lengths, totalOf}
 use Rattle.values.specs.declared.Dialect.{Dialect}

@@ -19,7 +19,7 @@ use Rattle.kinds.specs.Shape.{greatest, productOf, productsFit, sizeFits, sizeO
 use Rattle.values.specs.declared.Dialect.{Dialect}
 use Rattle.values.specs.declared.Span.{Span}
 use Rattle.tensors.specs.declared.Shape.{Shape}
-use Rattle.tensors.specs.declared.Stored.{Stored}
+use Rattle.tensors.specs.declared.KindAndOffset.{KindAndOffset}
 use Rattle.tensors.specs.declared.Tensor.{Tensor}
 use Rattle.values.specs.Format.{size, text}
 
@@ -50,8 +50,8 @@ abbrev pub lengths : Shape → List ℕ
 lengths x = x .first ∷ x .second ∷ x .third ∷ x .fourth ∷ []
 
 -- the kind and the offset; the kind is judged once both are read
-unfoldable pub stored : Dialect → Reading Stored
-stored k = do
+unfoldable pub kindAndOffset : Dialect → Reading KindAndOffset
+kindAndOffset k = do
   p ← here
   t ← number 4 (k .big)
   o ← number 8 (k .big)
@@ -60,7 +60,7 @@ stored k = do
   done (record { kind = t; offset = o })
 
 -- the tensor of what stands at p, after tensors whose products come to total: its products, its size and the new total must fit
-abbrev pub fitting : ℕ → ℕ → Span → Shape → Stored → Reading Tensor
+abbrev pub fitting : ℕ → ℕ → Span → Shape → KindAndOffset → Reading Tensor
 fitting p total name x y = do
   check (productsFit (lengths x)) 13 p
   check (sizeFits (lengths x) (y .kind)) 14 p
@@ -73,7 +73,7 @@ tensor k total = do
   p ← here
   name ← text k
   x ← shape k
-  y ← stored k
+  y ← kindAndOffset k
   fitting p total name x y
 
 -- the total after a tensor

@@ -8,35 +8,35 @@ use Rattle.reading.specs.Choice.{if_then_else_}
 use Rattle.reading.specs.Reading.{Reading, done, _>>=_, here}
 use Rattle.fields.specs.Value.{value}
 use Rattle.kinds.specs.Shape.{productOf, sizeOf}
-use Rattle.tensors.specs.Format.{lengths, shape, stored}
+use Rattle.tensors.specs.Format.{lengths, shape, kindAndOffset}
 use Rattle.values.specs.declared.Dialect.{Dialect}
 use Rattle.tensors.specs.declared.Shape.{Shape}
 use Rattle.values.specs.declared.Span.{Span}
 use Rattle.tensors.specs.declared.Tensor.{Tensor}
-use Rattle.tensors.specs.declared.Again.{Again}
+use Rattle.tensors.specs.declared.AfterName.{AfterName}
 
 -- the length i of a shape of n dimensions, of which the first stands at p: beyond those it is 1
-abbrev pub lengthThere : List ℕ → ℕ → Bool → ℕ → ℕ → ℕ
-lengthThere s p big n i = if ltb i n then value big (take 8 (drop (p + 8 * i) s)) else 1
+abbrev pub lengthIn : List ℕ → ℕ → Bool → ℕ → ℕ → ℕ
+lengthIn s p big n i = if ltb i n then value big (take 8 (drop (p + 8 * i) s)) else 1
 
 -- the shape of n dimensions, of which the first length stands at p
-abbrev pub shapeThere : List ℕ → ℕ → Bool → ℕ → Shape
-shapeThere s p big n =
-    record { dimensions = n; first = lengthThere s p big n 0; second = lengthThere s p big n 1; third = lengthThere s p big n 2; fourth = lengthThere s p big n 3 }
+abbrev pub shapeIn : List ℕ → ℕ → Bool → ℕ → Shape
+shapeIn s p big n =
+    record { dimensions = n; first = lengthIn s p big n 0; second = lengthIn s p big n 1; third = lengthIn s p big n 2; fourth = lengthIn s p big n 3 }
 
 -- a dialect of this byte order: what stands after a tensor's name is the same in each version
 abbrev pub inOrder : Bool → Dialect
 inOrder big = record { version = 3; big = big }
 
 -- what stands after a tensor's name, and the place after it
-unfoldable pub rest : Bool → Reading Again
-rest big = do
+unfoldable pub afterName : Bool → Reading AfterName
+afterName big = do
   x ← shape (inOrder big)
-  y ← stored (inOrder big)
+  y ← kindAndOffset (inOrder big)
   q ← here
   done (record { shape = x; kind = y .kind; offset = y .offset; next = q })
 
 -- the tensor of a name and of what stands after it
-abbrev pub tensorOf : Span → Again → Tensor
+abbrev pub tensorOf : Span → AfterName → Tensor
 tensorOf a x =
     record { name = a; shape = x .shape; kind = x .kind; offset = x .offset; parameters = productOf (lengths (x .shape)); size = sizeOf (lengths (x .shape)) (x .kind) }

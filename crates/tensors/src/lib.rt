@@ -3,8 +3,9 @@
 // `read_tensor` tests everything. The steps after it read a tensor again that was accepted before, and test nothing.
 use fields::Number;
 use fields::Width;
-use kinds::Whole;
+use kinds::Bounded;
 use reading::Limits;
+use rows::TensorRow;
 use values::Dialect;
 use values::Span;
 use values::TextRead;
@@ -18,10 +19,10 @@ ghost use Rattle.kinds.specs.Shape.{productsFit, sizeFits};
 ghost use Rattle.kinds.specs.Table.{knownKind};
 ghost use Rattle.reading.specs.Ceilings.{under};
 ghost use Rattle.reading.specs.Reading.{accepted, isAccepted, run};
-ghost use Rattle.tensors.specs.Answers.{asShape, asStored, asTensor};
+ghost use Rattle.tensors.specs.Answers.{asShape, asKindAndOffset, asTensor};
 ghost use Rattle.tensors.specs.Format.{lengths};
 ghost use Rattle.tensors.specs.Rows.{tensorRow};
-ghost use Rattle.tensors.specs.Steps.{lengthThere, rest, shapeThere, tensorOf};
+ghost use Rattle.tensors.specs.Steps.{lengthIn, afterName, shapeIn, tensorOf};
 ghost use Rattle.values.specs.Format.{text};
 ghost use Rattle.tensors.specs.Format as format;
 ghost use Rattle.tensors.specs.Rows as rows;
@@ -41,13 +42,13 @@ pub enum ShapeRead {
 }
 
 // A tensor's kind, and the offset of its data from the data's start.
-pub struct Stored {
+pub struct KindAndOffset {
     pub kind: u64,
     pub offset: u64,
 }
 
-pub enum StoredRead {
-    Found { stored: Stored, next: usize },
+pub enum KindAndOffsetRead {
+    Found { stored: KindAndOffset, next: usize },
     Refused { why: u64, place: usize },
 }
 
@@ -67,7 +68,7 @@ pub enum TensorRead {
 }
 
 // What stands after a tensor's name, and the place after it.
-pub struct Again {
+pub struct AfterName {
     pub shape: Shape,
     pub kind: u64,
     pub offset: u64,
@@ -128,42 +129,42 @@ fn read_shape(s: &[u8], at: usize, dialect: Dialect) -> ShapeRead
 }
 
 // The kind and the offset; the kind is judged once both are read.
-fn read_stored(s: &[u8], at: usize, dialect: Dialect, limits: Limits) -> StoredRead
-    ensures { λ r. ⌜ asStored r ≡ run (under limits (format.stored dialect)) (now (s .entry)) at ⌝ }
+fn read_kind_and_offset(s: &[u8], at: usize, dialect: Dialect, limits: Limits) -> KindAndOffsetRead
+    ensures { λ r. ⌜ asKindAndOffset r ≡ run (under limits (format.kindAndOffset dialect)) (now (s .entry)) at ⌝ }
 {
     let Number::Value {
         value: kind,
         next: p,
     } = fields::number_at(s, at, Width::Four, dialect.big)
     else {
-        return StoredRead::Refused { why: 1, place: at };
+        return KindAndOffsetRead::Refused { why: 1, place: at };
     };
     let Number::Value {
         value: offset,
         next,
     } = fields::number_at(s, p, Width::Eight, dialect.big)
     else {
-        return StoredRead::Refused { why: 1, place: p };
+        return KindAndOffsetRead::Refused { why: 1, place: p };
     };
     if kinds::is_known(kind) {
         if limits.kinds < kind {
-            return StoredRead::Refused { why: 12, place: at };
+            return KindAndOffsetRead::Refused { why: 12, place: at };
         }
-        return StoredRead::Found {
-            stored: Stored { kind, offset },
+        return KindAndOffsetRead::Found {
+            stored: KindAndOffset { kind, offset },
             next,
         };
     }
-    StoredRead::Refused { why: 11, place: at }
+    KindAndOffsetRead::Refused { why: 11, place: at }
 }
 
 // The tensor of what was read, where its products, its size and the new total fit.
-fn fitted(
+fn fitting_tensor(
     at: usize,
     total: u64,
     name: Span,
     shape: Shape,
-    stored: Stored,
+    stored: KindAndOffset,
     next: usize,
 ) -> TensorRead
     requires { ⌜ knownKind (stored .kind) ≡ true ⌝ }
@@ -171,7 +172,7 @@ fn fitted(
 {
     let kind = stored.kind;
     let four = [shape.first, shape.second, shape.third, shape.fourth];
-    let Whole::Fits { value: product } = kinds::product(four) else {
+    let Bounded::Fits { value: product } = kinds::product(four) else {
         return TensorRead::Refused { why: 13, place: at };
     };
     if !kinds::fits(product, kind) {
@@ -205,16 +206,16 @@ pub fn read_tensor(s: &[u8], at: usize, dialect: Dialect, total: u64, limits: Li
             next: p,
         } => match read_shape(s, p, dialect) {
             ShapeRead::Refused { why, place } => TensorRead::Refused { why, place },
-            ShapeRead::Found { shape, next: q } => match read_stored(s, q, dialect, limits) {
-                StoredRead::Refused { why, place } => TensorRead::Refused { why, place },
-                StoredRead::Found { stored, next } => fitted(at, total, name, shape, stored, next),
+            ShapeRead::Found { shape, next: q } => match read_kind_and_offset(s, q, dialect, limits) {
+                KindAndOffsetRead::Refused { why, place } => TensorRead::Refused { why, place },
+                KindAndOffsetRead::Found { stored, next } => fitting_tensor(at, total, name, shape, stored, next),
             },
         },
     }
 }
 
 // A tensor's row.
-pub fn tensor_row(tensor: Tensor) -> [u64; 10]
+pub fn tensor_row(tensor: Tensor) -> TensorRow
     ensures { λ r. ⌜ r ≡ rows.tensorRow tensor ⌝ }
 {
     let name = tensor.name;
@@ -234,7 +235,7 @@ pub fn tensor_row(tensor: Tensor) -> [u64; 10]
 }
 
 // The name of a tensor that is there.
-pub fn name_again(s: &[u8], at: usize, dialect: Dialect) -> Span
+pub fn known_name(s: &[u8], at: usize, dialect: Dialect) -> Span
     requires { ⌜ isAccepted (run (text dialect) (now s) at) ≡ true ⌝ }
     ensures { λ r. ⌜ accepted r (r .place + r .len) ≡ run (text dialect) (now (s .entry)) at ⌝ }
 {
@@ -252,9 +253,9 @@ pub fn name_again(s: &[u8], at: usize, dialect: Dialect) -> Span
 }
 
 // The length i of a shape of n dimensions, of which the first stands at at.
-fn length_again(s: &[u8], at: usize, big: bool, n: u64, i: u64) -> u64
+fn known_length(s: &[u8], at: usize, big: bool, n: u64, i: u64) -> u64
     requires { ⌜ at + 8 * n ≤ length (now s) ⌝ }
-    ensures { λ r. ⌜ r ≡ lengthThere (now (s .entry)) at big n i ⌝ }
+    ensures { λ r. ⌜ r ≡ lengthIn (now (s .entry)) at big n i ⌝ }
 {
     if i < n {
         fields::value_in(s, at + 8 * (i as usize), Width::Eight, big)
@@ -264,29 +265,29 @@ fn length_again(s: &[u8], at: usize, big: bool, n: u64, i: u64) -> u64
 }
 
 // The shape of n dimensions, of which the first length stands at at.
-pub fn shape_again(s: &[u8], at: usize, big: bool, n: u64) -> Shape
+pub fn known_shape(s: &[u8], at: usize, big: bool, n: u64) -> Shape
     requires { ⌜ at + 8 * n ≤ length (now s) ⌝ }
-    ensures { λ r. ⌜ r ≡ shapeThere (now (s .entry)) at big n ⌝ }
+    ensures { λ r. ⌜ r ≡ shapeIn (now (s .entry)) at big n ⌝ }
 {
     Shape {
         dimensions: n,
-        first: length_again(s, at, big, n, 0),
-        second: length_again(s, at, big, n, 1),
-        third: length_again(s, at, big, n, 2),
-        fourth: length_again(s, at, big, n, 3),
+        first: known_length(s, at, big, n, 0),
+        second: known_length(s, at, big, n, 1),
+        third: known_length(s, at, big, n, 2),
+        fourth: known_length(s, at, big, n, 3),
     }
 }
 
 // What stands after the name of a tensor that is there.
-pub fn rest_again(s: &[u8], at: usize, big: bool) -> Again
-    requires { ⌜ isAccepted (run (rest big) (now s) at) ≡ true ⌝ }
-    ensures { λ r. ⌜ accepted r (r .next) ≡ run (rest big) (now (s .entry)) at ⌝ }
+pub fn known_after_name(s: &[u8], at: usize, big: bool) -> AfterName
+    requires { ⌜ isAccepted (run (afterName big) (now s) at) ≡ true ⌝ }
+    ensures { λ r. ⌜ accepted r (r .next) ≡ run (afterName big) (now (s .entry)) at ⌝ }
 {
     let n = fields::value_in(s, at, Width::Four, big);
     let from = at + 4;
     let to = from + 8 * (n as usize);
-    Again {
-        shape: shape_again(s, from, big, n),
+    AfterName {
+        shape: known_shape(s, from, big, n),
         kind: fields::value_in(s, to, Width::Four, big),
         offset: fields::value_in(s, to + 4, Width::Eight, big),
         next: to + 12,
@@ -294,7 +295,7 @@ pub fn rest_again(s: &[u8], at: usize, big: bool) -> Again
 }
 
 // The row of a tensor of which all is known to fit.
-pub fn row_again(name: Span, again: Again) -> [u64; 10]
+pub fn known_row(name: Span, again: AfterName) -> TensorRow
     requires { ⌜ knownKind (again .kind) ≡ true ⌝ }
     requires { ⌜ productsFit (lengths (again .shape)) ≡ true ⌝ }
     requires { ⌜ sizeFits (lengths (again .shape)) (again .kind) ≡ true ⌝ }

@@ -24,7 +24,7 @@ one-big = record { version = 1; big = true }
 abbrev a-is-seven : List ℕ
 a-is-seven = 1 ∷ 0 ∷ 0 ∷ 0 ∷ 0 ∷ 0 ∷ 0 ∷ 0 ∷ 97 ∷ 4 ∷ 0 ∷ 0 ∷ 0 ∷ 7 ∷ 0 ∷ 0 ∷ 0 ∷ []
 
-pub an-entry : run (entry three 3) a-is-seven 0 ≡ accepted (record { key = record { place = 8; len = 1 }; aligns = false; value = Single (U32 7) }) 17
+pub an-entry : run (entry three 3) a-is-seven 0 ≡ accepted (record { key = record { place = 8; len = 1 }; «is_alignment» = false; value = Single (U32 7) }) 17
 unfolding run _>>=_ here each number size textLooking key type scalarWidth text valueOf array value entry
 an-entry = refl
 
@@ -40,7 +40,7 @@ five-tokens =
 
 pub a-capped-array : run (entry one-big 3) five-tokens 0 ≡ accepted (record {
   key = record { place = 4; len = 11 };
-  aligns = false;
+  «is_alignment» = false;
   value = Array (record { item = 0; count = 5; kept = 3; first = 27 });
 }) 32
 unfolding run _>>=_ here each number size textLooking key type scalarWidth text valueOf array value entry

@@ -1,6 +1,6 @@
-pub mod Low
-pub mod Back
-pub mod Sure
+pub mod ValueMarks
+pub mod ValuesBack
+pub mod ValuesFit
 pub mod Examples
 pub mod Texts
-pub mod Items
+pub mod ValueForms

@@ -12,8 +12,8 @@ use borrow.Author.Tests.{leb-true, leb-false, eq-eqb, ne-eqb}
 use Rattle.reading.specs.Back.{same, Sure}
 use Rattle.reading.specs.Choice.{if_then_else_}
 use Rattle.reading.specs.Reading.{Reading, done, place, field, Answer, accepted, refused, run, _>>=_, _>>_, here, check, andThen}
-use Rattle.reading.proofs.Laws.{run-bind}
-use Rattle.reading.proofs.Sure.{sure-then, sure-here, sure-check, sure-field, whatever}
+use Rattle.reading.proofs.RunLaws.{run-bind}
+use Rattle.reading.proofs.SureLaws.{sure-then, sure-here, sure-check, sure-field, whatever}
 use Rattle.fields.proofs.NumberFields.{number-within}
 use Rattle.values.specs.Format.{sizeWidth, size, textLooking, text, begins, isWord}
 use Rattle.values.specs.declared.Dialect.{Dialect}

@@ -10,7 +10,7 @@ use lib.ListN.{length, take, drop}
 use Rattle.reading.specs.Choice.{if_then_else_}
 use Rattle.reading.specs.Reading.{Reading, refuse}
 use Rattle.fields.specs.Bytes.{bytesOf, Within}
-use Rattle.reading.specs.Back.{rows, itemsAt, All}
+use Rattle.reading.specs.Back.{bytesOfAll, itemsAt, All}
 use Rattle.values.specs.declared.Dialect.{Dialect}
 use Rattle.values.specs.declared.Span.{Span}
 use Rattle.values.specs.declared.Key.{Key}
@@ -21,37 +21,37 @@ use Rattle.values.specs.Format.{sizeWidth, begins, isWord, alignmentKey,
 use Rattle.scalars.specs.Scalars.{scalarWidth, scalarType, scalarBits, FitsScalar}
 
 -- a value: a scalar's type and bits; a text's bytes; or the type of an array's items, and what each of them says
-pub data Said (I : Type 0) : Type 0 where
-  one : ℕ → ℕ → Said I
-  word : List ℕ → Said I
-  list : ℕ → List I → Said I
+pub data ValueContent (I : Type 0) : Type 0 where
+  aScalar : ℕ → ℕ → ValueContent I
+  aText : List ℕ → ValueContent I
+  anArray : ℕ → List I → ValueContent I
 
 -- what a value says in which fewer than so many arrays stand in one another; of none nothing can be said
 abbrev pub Content : ℕ → Type 0
 Content zero = Unit {0}
-Content (suc d) = Said (Content d)
+Content (suc d) = ValueContent (Content d)
 
 -- an entry
-pub record Entered : Type 0 where
+pub record EntryContent : Type 0 where
   pub key : List ℕ
-  pub said : Content (suc depth)
+  pub value : Content (suc depth)
 
 -- a key, and what its bytes decide
-pub record Named : Type 0 where
+pub record FlaggedKey : Type 0 where
   pub key : List ℕ
-  pub aligns : Bool
-  pub tokens : Bool
+  pub «is_alignment» : Bool
+  pub «is_tokenizer» : Bool
 
-abbrev pub named : List ℕ → Named
-named b = record { key = b; aligns = isWord alignmentKey b; tokens = begins tokenizerKey b }
+abbrev pub flaggedKey : List ℕ → FlaggedKey
+flaggedKey b = record { key = b; «is_alignment» = isWord alignmentKey b; «is_tokenizer» = begins tokenizerKey b }
 
 -- an entry, and whether its key is the alignment's
-pub record Noted : Type 0 where
-  pub entered : Entered
-  pub aligns : Bool
+pub record FlaggedEntry : Type 0 where
+  pub content : EntryContent
+  pub «is_alignment» : Bool
 
-abbrev pub noted : Entered → Noted
-noted e = record { entered = e; aligns = isWord alignmentKey (e .key) }
+abbrev pub flaggedEntry : EntryContent → FlaggedEntry
+flaggedEntry e = record { content = e; «is_alignment» = isWord alignmentKey (e .key) }
 
 -- The bytes.
 
@@ -65,20 +65,20 @@ unfoldable pub typeBytes : Dialect → ℕ → List ℕ
 typeBytes k t = bytesOf (k .big) 4 t
 
 -- a value's type
-abbrev pub typeOf : {I : Type 0} → Said I → ℕ
-typeOf (one t v) = t
-typeOf (word b) = 8
-typeOf (list t l) = 9
+abbrev pub typeOf : {I : Type 0} → ValueContent I → ℕ
+typeOf (aScalar t v) = t
+typeOf (aText b) = 8
+typeOf (anArray t l) = 9
 
 -- a value, without its type
-unfoldable pub saidBytes : (d : ℕ) → Dialect → Content d → List ℕ
-saidBytes zero k c = []
-saidBytes (suc d) k (one t v) = bytesOf (k .big) (scalarWidth t) v
-saidBytes (suc d) k (word b) = textBytes k b
-saidBytes (suc d) k (list t l) = typeBytes k t ++ sizeBytes k (length l) ++ rows (saidBytes d k) l
+unfoldable pub valueBytes : (d : ℕ) → Dialect → Content d → List ℕ
+valueBytes zero k c = []
+valueBytes (suc d) k (aScalar t v) = bytesOf (k .big) (scalarWidth t) v
+valueBytes (suc d) k (aText b) = textBytes k b
+valueBytes (suc d) k (anArray t l) = typeBytes k t ++ sizeBytes k (length l) ++ bytesOfAll (valueBytes d k) l
 
-unfoldable pub entryBytes : Dialect → Entered → List ℕ
-entryBytes k e = textBytes k (e .key) ++ typeBytes k (typeOf (e .said)) ++ saidBytes (suc depth) k (e .said)
+unfoldable pub entryBytes : Dialect → EntryContent → List ℕ
+entryBytes k e = textBytes k (e .key) ++ typeBytes k (typeOf (e .value)) ++ valueBytes (suc depth) k (e .value)
 
 -- What stands at the places.
 
@@ -95,22 +95,22 @@ valueIn zero k o t = refuse 9 o
 valueIn (suc d) k o t = valueOf (array d k) k o t
 
 -- a value: the items of an array are read again, from the place of the first
-unfoldable pub saidOf : (d : ℕ) → Dialect → List ℕ → Value → Content d
-saidOf zero k s v = tt
-saidOf (suc d) k s (Single x) = one (scalarType x) (scalarBits x)
-saidOf (suc d) k s (Text a) = word (bytesAt s a)
-saidOf (suc d) k s (Array a) = list (a .item) (itemsAt (saidOf d k s) (valueIn d k 0 (a .item)) (a .count) s (a .first))
+unfoldable pub valueContent : (d : ℕ) → Dialect → List ℕ → Value → Content d
+valueContent zero k s v = tt
+valueContent (suc d) k s (Single x) = aScalar (scalarType x) (scalarBits x)
+valueContent (suc d) k s (Text a) = aText (bytesAt s a)
+valueContent (suc d) k s (Array a) = anArray (a .item) (itemsAt (valueContent d k s) (valueIn d k 0 (a .item)) (a .count) s (a .first))
 
-abbrev pub enteredOf : Dialect → List ℕ → Entry → Entered
-enteredOf k s e = record { key = bytesAt s (e .key); said = saidOf (suc depth) k s (e .value) }
+abbrev pub entryContent : Dialect → List ℕ → Entry → EntryContent
+entryContent k s e = record { key = bytesAt s (e .key); value = valueContent (suc depth) k s (e .value) }
 
 -- a key
-abbrev pub namedOf : List ℕ → Key → Named
-namedOf s x = record { key = bytesAt s (x .span); aligns = x .aligns; tokens = x .tokens }
+abbrev pub flaggedKeyOf : List ℕ → Key → FlaggedKey
+flaggedKeyOf s x = record { key = bytesAt s (x .span); «is_alignment» = x .«is_alignment»; «is_tokenizer» = x .«is_tokenizer» }
 
 -- an entry, and what its key decides
-abbrev pub notedOf : Dialect → List ℕ → Entry → Noted
-notedOf k s e = record { entered = enteredOf k s e; aligns = e .aligns }
+abbrev pub flaggedEntryOf : Dialect → List ℕ → Entry → FlaggedEntry
+flaggedEntryOf k s e = record { content = entryContent k s e; «is_alignment» = e .«is_alignment» }
 
 -- a text that is not too long
 abbrev pub Short : List ℕ → Type 0
@@ -122,13 +122,13 @@ typeIn zero c = 0
 typeIn (suc d) c = typeOf c
 
 -- a value in which fewer than so many arrays stand in one another; the items of an array are all of its item type
-abbrev pub FitsSaid : (d : ℕ) → Dialect → Content d → Type 0
-FitsSaid zero k c = ⊥
-FitsSaid (suc d) k (one t v) = FitsScalar t v
-FitsSaid (suc d) k (word b) = Short b
-FitsSaid (suc d) k (list t l) = (0 < d) × (t ≤ 12) × Within (sizeWidth k) (length l) × All (λ c. (typeIn d c ≡ t) × FitsSaid d k c) l
+abbrev pub FitsValue : (d : ℕ) → Dialect → Content d → Type 0
+FitsValue zero k c = ⊥
+FitsValue (suc d) k (aScalar t v) = FitsScalar t v
+FitsValue (suc d) k (aText b) = Short b
+FitsValue (suc d) k (anArray t l) = (0 < d) × (t ≤ 12) × Within (sizeWidth k) (length l) × All (λ c. (typeIn d c ≡ t) × FitsValue d k c) l
 
 -- an entry
-pub record FitsEntry (k : Dialect) (e : Entered) : Type 0 where
+pub record FitsEntry (k : Dialect) (e : EntryContent) : Type 0 where
   pub key : Short (e .key)
-  pub said : FitsSaid (suc depth) k (e .said)
+  pub value : FitsValue (suc depth) k (e .value)

@@ -71,7 +71,7 @@ tokenizerKey = 116 ∷ 111 ∷ 107 ∷ 101 ∷ 110 ∷ 105 ∷ 122 ∷ 101 ∷ 1
 
 -- what a key's bytes decide: whether it is the alignment's, and whether its arrays are capped
 abbrev pub keyOf : Span → List ℕ → Key
-keyOf a bs = record { span = a; aligns = isWord alignmentKey bs; tokens = begins tokenizerKey bs }
+keyOf a bs = record { span = a; «is_alignment» = isWord alignmentKey bs; «is_tokenizer» = begins tokenizerKey bs }
 
 -- a key: a text, of which 18 bytes are enough to tell
 unfoldable pub key : Dialect → Reading Key
@@ -138,4 +138,4 @@ unfoldable pub entry : Dialect → ℕ → Reading Entry
 entry k cap = do
   name ← key k
   v ← value k
-  done (record { key = name .span; aligns = name .aligns; value = keeping (name .tokens) cap v })
+  done (record { key = name .span; «is_alignment» = name .«is_alignment»; value = keeping (name .«is_tokenizer») cap v })

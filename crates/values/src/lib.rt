@@ -5,6 +5,7 @@
 // where a key is compared.
 use fields::Number;
 use fields::Width;
+use rows::EntryRow;
 use scalars::Scalar;
 ghost use Prim.Native.Nat.{_+_, _<_, _≤_};
 ghost use lib.ListN.{drop, length, take};
@@ -38,8 +39,8 @@ pub enum TextRead {
 // A key: where it is, whether it is "general.alignment", and whether it starts with "tokenizer.".
 pub struct Key {
     pub span: Span,
-    pub aligns: bool,
-    pub tokens: bool,
+    pub is_alignment: bool,
+    pub is_tokenizer: bool,
 }
 
 pub enum KeyRead {
@@ -79,7 +80,7 @@ pub enum Passed {
 
 pub struct Entry {
     pub key: Span,
-    pub aligns: bool,
+    pub is_alignment: bool,
     pub value: Value,
 }
 
@@ -166,7 +167,7 @@ pub fn inside(s: &[u8], span: Span) -> &[u8]
 }
 
 // Whether a text is "general.alignment".
-fn is_alignment(s: &[u8], span: Span) -> bool
+fn is_alignment_key(s: &[u8], span: Span) -> bool
     requires { ⌜ span .place + span .len ≤ length (now s) ⌝ }
     ensures { λ r. ⌜ r ≡ format.isWord format.alignmentKey (take 18 (take (span .len) (drop (span .place) (now (s .entry))))) ⌝ }
 {
@@ -178,7 +179,7 @@ fn is_alignment(s: &[u8], span: Span) -> bool
 }
 
 // Whether a text starts with "tokenizer.".
-fn is_tokenizer(s: &[u8], span: Span) -> bool
+fn is_tokenizer_key(s: &[u8], span: Span) -> bool
     requires { ⌜ span .place + span .len ≤ length (now s) ⌝ }
     ensures { λ r. ⌜ r ≡ format.begins format.tokenizerKey (take 18 (take (span .len) (drop (span .place) (now (s .entry))))) ⌝ }
 {
@@ -196,13 +197,13 @@ fn read_key(s: &[u8], at: usize, dialect: Dialect) -> KeyRead
     match read_string(s, at, dialect) {
         TextRead::Refused { why, place } => KeyRead::Refused { why, place },
         TextRead::Found { span, next } => {
-            let aligns = is_alignment(s, span);
-            let tokens = is_tokenizer(s, span);
+            let is_alignment = is_alignment_key(s, span);
+            let is_tokenizer = is_tokenizer_key(s, span);
             KeyRead::Found {
                 key: Key {
                     span,
-                    aligns,
-                    tokens,
+                    is_alignment,
+                    is_tokenizer,
                 },
                 next,
             }
@@ -387,8 +388,8 @@ pub fn read_entry(s: &[u8], at: usize, dialect: Dialect, cap: u64) -> EntryRead
                 EntryRead::Found {
                     entry: Entry {
                         key: span,
-                        aligns: key.aligns,
-                        value: keeping(key.tokens, cap, value),
+                        is_alignment: key.is_alignment,
+                        value: keeping(key.is_tokenizer, cap, value),
                     },
                     next,
                 }
@@ -412,7 +413,7 @@ fn value_words(v: Value) -> [u64; 5]
 }
 
 // An entry's row.
-pub fn entry_row(entry: Entry) -> [u64; 7]
+pub fn entry_row(entry: Entry) -> EntryRow
     ensures { λ r. ⌜ r ≡ rows.entryRow entry ⌝ }
 {
     let key = entry.key;

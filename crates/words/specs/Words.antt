@@ -17,15 +17,15 @@ use Rattle.ranges.specs.declared.RangeCheck.{RangeCheck}
 use Rattle.ranges.specs.declared.RangeCheck.the-variants.{Inside, Refused as Past}
 use Rattle.lookup.specs.declared.Lookup.{Lookup}
 use Rattle.lookup.specs.declared.Lookup.the-variants.{Found, Absent, Refused}
-use Rattle.lookup.specs.declared.FileTypeTold.{FileTypeTold}
-use Rattle.lookup.specs.declared.FileTypeTold.the-variants.{Known, Unknown, Refused as NotRead}
-use Rattle.lookup.specs.Questions.{enough, stringTold}
+use Rattle.lookup.specs.declared.FileTypeRead.{FileTypeRead}
+use Rattle.lookup.specs.declared.FileTypeRead.the-variants.{Known, Unknown, Refused as NotRead}
+use Rattle.lookup.specs.Questions.{enough, stringStatus}
 use Rattle.writer.specs.declared.HeaderWritten.{HeaderWritten}
 use Rattle.writer.specs.declared.HeaderWritten.the-variants.{Written, Refused as NotWritten}
 
 -- a word and seven zeros
-abbrev pub alone : ℕ → List ℕ
-alone n = n ∷ 0 ∷ 0 ∷ 0 ∷ 0 ∷ 0 ∷ 0 ∷ 0 ∷ []
+abbrev pub oneWord : ℕ → List ℕ
+oneWord n = n ∷ 0 ∷ 0 ∷ 0 ∷ 0 ∷ 0 ∷ 0 ∷ 0 ∷ []
 
 -- what a header says of itself where there are rows enough; which items are kept does not matter to it
 abbrev pub measured : Limits → List ℕ → Answer Header
@@ -39,7 +39,7 @@ numberOf (refused n p) = n
 -- version, byte order (1 for the big end first), entries, tensors, alignment, the header's end, the start of the data, 0; of a refusal its place
 abbrev pub wordsOf : Answer Header → List ℕ
 wordsOf (accepted h q) = h .version ∷ (if h .big then 1 else 0) ∷ h .entries ∷ h .tensors ∷ h .alignment ∷ h .end ∷ h .start ∷ 0 ∷ []
-wordsOf (refused n p) = alone p
+wordsOf (refused n p) = oneWord p
 
 -- 0 where every tensor ends inside the file, and else the refusal's number
 abbrev pub rangeNumber : RangeCheck → ℕ
@@ -48,8 +48,8 @@ rangeNumber (Past n i) = n
 
 -- the number of the first tensor that does not; 0 where there is none
 abbrev pub rangeWords : RangeCheck → List ℕ
-rangeWords Inside = alone 0
-rangeWords (Past n i) = alone i
+rangeWords Inside = oneWord 0
+rangeWords (Past n i) = oneWord i
 
 -- 0 where a key was found, 100 where it is absent, and else the refusal's number
 abbrev pub entryNumber : Lookup → ℕ
@@ -60,36 +60,36 @@ entryNumber (Refused n p) = n
 -- the entry's row and a zero; of a refusal its place
 abbrev pub entryWords : Lookup → List ℕ
 entryWords (Found e) = entryRow e ++ (0 ∷ [])
-entryWords Absent = alone 0
-entryWords (Refused n p) = alone p
+entryWords Absent = oneWord 0
+entryWords (Refused n p) = oneWord p
 
 -- 0 where a string was found, 100 where the key is absent, 101 where its value is of another type, and else the refusal's number
 abbrev pub stringNumber : Lookup → ℕ
-stringNumber l = getD (stringTold l) 0 0
+stringNumber l = getD (stringStatus l) 0 0
 
 -- a string's place and length; of any other value zeros
 abbrev pub textWords : Value → List ℕ
-textWords (Single x) = alone 0
+textWords (Single x) = oneWord 0
 textWords (Text a) = a .place ∷ a .len ∷ 0 ∷ 0 ∷ 0 ∷ 0 ∷ 0 ∷ 0 ∷ []
-textWords (Array a) = alone 0
+textWords (Array a) = oneWord 0
 
 -- the place and length of the string that was found; of a refusal its place
 abbrev pub stringWords : Lookup → List ℕ
 stringWords (Found e) = textWords (e .value)
-stringWords Absent = alone 0
-stringWords (Refused n p) = alone p
+stringWords Absent = oneWord 0
+stringWords (Refused n p) = oneWord p
 
 -- 0 where the file's type is known, 102 where it is not, and else the refusal's number
-abbrev pub typeNumber : FileTypeTold → ℕ
+abbrev pub typeNumber : FileTypeRead → ℕ
 typeNumber (Known n) = 0
 typeNumber Unknown = 102
 typeNumber (NotRead n p) = n
 
 -- the file's type; of a refusal its place
-abbrev pub typeWords : FileTypeTold → List ℕ
-typeWords (Known n) = alone n
-typeWords Unknown = alone 0
-typeWords (NotRead n p) = alone p
+abbrev pub typeWords : FileTypeRead → List ℕ
+typeWords (Known n) = oneWord n
+typeWords Unknown = oneWord 0
+typeWords (NotRead n p) = oneWord p
 
 -- a version, and the big end first where its number is not 0
 abbrev pub dialectOf : ℕ → ℕ → Dialect
@@ -103,4 +103,4 @@ writtenNumber (NotWritten n p) = n
 -- the header's end, the start of the data and zeros; of a refusal its place
 abbrev pub writtenWords : HeaderWritten → List ℕ
 writtenWords (Written end start) = end ∷ start ∷ 0 ∷ 0 ∷ 0 ∷ 0 ∷ 0 ∷ 0 ∷ []
-writtenWords (NotWritten n p) = alone p
+writtenWords (NotWritten n p) = oneWord p

@@ -1,6 +1,6 @@
 // The answers of the exported functions as numbers: one that is returned, and eight words.
 use header::HeaderRead;
-use lookup::FileTypeTold;
+use lookup::FileTypeRead;
 use lookup::Lookup;
 use ranges::RangeCheck;
 use values::Value;
@@ -13,8 +13,8 @@ ghost use Rattle.words.specs.Words as words;
 pub const TOLD_UNKNOWN: u64 = 102;
 
 // A word and seven zeros.
-pub fn alone(word: u64) -> [u64; 8]
-    ensures { λ r. ⌜ r ≡ words.alone word ⌝ }
+pub fn one_word(word: u64) -> [u64; 8]
+    ensures { λ r. ⌜ r ≡ words.oneWord word ⌝ }
 {
     [word, 0, 0, 0, 0, 0, 0, 0]
 }
@@ -34,7 +34,7 @@ pub fn words_of(read: HeaderRead) -> [u64; 8]
     ensures { λ r. ⌜ r ≡ words.wordsOf (asHeader read) ⌝ }
 {
     match read {
-        HeaderRead::Refused { why: _, place } => alone(place as u64),
+        HeaderRead::Refused { why: _, place } => one_word(place as u64),
         HeaderRead::Found { header } => [
             header.version,
             if header.big { 1 } else { 0 },
@@ -63,8 +63,8 @@ pub fn range_words(check: RangeCheck) -> [u64; 8]
     ensures { λ r. ⌜ r ≡ words.rangeWords check ⌝ }
 {
     match check {
-        RangeCheck::Inside => alone(0),
-        RangeCheck::Refused { why: _, tensor } => alone(tensor as u64),
+        RangeCheck::Inside => one_word(0),
+        RangeCheck::Refused { why: _, tensor } => one_word(tensor as u64),
     }
 }
 
@@ -84,8 +84,8 @@ pub fn entry_words(found: Lookup) -> [u64; 8]
     ensures { λ r. ⌜ r ≡ words.entryWords found ⌝ }
 {
     match found {
-        Lookup::Absent => alone(0),
-        Lookup::Refused { why: _, place } => alone(place as u64),
+        Lookup::Absent => one_word(0),
+        Lookup::Refused { why: _, place } => one_word(place as u64),
         Lookup::Found { entry } => {
             let row = values::entry_row(entry);
             [row[0], row[1], row[2], row[3], row[4], row[5], row[6], 0]
@@ -98,13 +98,13 @@ pub fn string_words(found: Lookup) -> [u64; 8]
     ensures { λ r. ⌜ r ≡ words.stringWords found ⌝ }
 {
     match found {
-        Lookup::Absent => alone(0),
-        Lookup::Refused { why: _, place } => alone(place as u64),
+        Lookup::Absent => one_word(0),
+        Lookup::Refused { why: _, place } => one_word(place as u64),
         Lookup::Found { entry } => {
             let v = entry.value;
             match v {
-                Value::Single(_) => alone(0),
-                Value::Array(_) => alone(0),
+                Value::Single(_) => one_word(0),
+                Value::Array(_) => one_word(0),
                 Value::Text(a) => [a.place as u64, a.len as u64, 0, 0, 0, 0, 0, 0],
             }
         }
@@ -112,24 +112,24 @@ pub fn string_words(found: Lookup) -> [u64; 8]
 }
 
 // The number of a file type's answer.
-pub fn type_number(told: FileTypeTold) -> u64
+pub fn type_number(told: FileTypeRead) -> u64
     ensures { λ r. ⌜ r ≡ words.typeNumber told ⌝ }
 {
     match told {
-        FileTypeTold::Known { number: _ } => 0,
-        FileTypeTold::Unknown => TOLD_UNKNOWN,
-        FileTypeTold::Refused { why, place: _ } => why,
+        FileTypeRead::Known { number: _ } => 0,
+        FileTypeRead::Unknown => TOLD_UNKNOWN,
+        FileTypeRead::Refused { why, place: _ } => why,
     }
 }
 
 // The words of a file type's answer.
-pub fn type_words(told: FileTypeTold) -> [u64; 8]
+pub fn type_words(told: FileTypeRead) -> [u64; 8]
     ensures { λ r. ⌜ r ≡ words.typeWords told ⌝ }
 {
     match told {
-        FileTypeTold::Known { number } => alone(number),
-        FileTypeTold::Unknown => alone(0),
-        FileTypeTold::Refused { why: _, place } => alone(place as u64),
+        FileTypeRead::Known { number } => one_word(number),
+        FileTypeRead::Unknown => one_word(0),
+        FileTypeRead::Refused { why: _, place } => one_word(place as u64),
     }
 }
 
@@ -148,7 +148,7 @@ pub fn written_words(written: HeaderWritten) -> [u64; 8]
     ensures { λ r. ⌜ r ≡ words.writtenWords written ⌝ }
 {
     match written {
-        HeaderWritten::Refused { why: _, place } => alone(place as u64),
+        HeaderWritten::Refused { why: _, place } => one_word(place as u64),
         HeaderWritten::Written { end, start } => [end as u64, start as u64, 0, 0, 0, 0, 0, 0],
     }
 }

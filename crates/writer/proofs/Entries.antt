@@ -6,46 +6,46 @@ use mathlib.Core.List.{List, [], _∷_, _++_, map, append-assoc}
 use native.Mathlib.Nat.{sub-zero}
 use native.Mathlib.Omega.{arith}
 use lib.ListN.{length, take, drop, length-append}
-use Rattle.reading.specs.Back.{got, rows}
+use Rattle.reading.specs.Back.{got, bytesOfAll}
 use Rattle.reading.specs.Choice.{if_then_else_}
 use Rattle.reading.specs.Each.{times}
 use Rattle.fields.specs.Order.{before}
 use Rattle.reading.specs.Reading.{Answer, accepted, refused, run, isAccepted}
-use Rattle.reading.proofs.Sure.{sure-each, whatever}
-use Rattle.reading.proofs.Turns.{times-accepted, times-got, times-ends}
-use Rattle.values.specs.Contents.{Entered, typeBytes, textBytes, saidBytes, entryBytes, insideOf}
+use Rattle.reading.proofs.SureLaws.{sure-each, whatever}
+use Rattle.reading.proofs.Repetition.{times-accepted, times-got, times-ends}
+use Rattle.values.specs.Contents.{EntryContent, typeBytes, textBytes, valueBytes, entryBytes, insideOf}
 use Rattle.values.specs.Format.{sizeWidth, depth, alignmentKey}
 use Rattle.values.specs.declared.Dialect.{Dialect}
-use Rattle.plan.specs.Header.{heard, inserted, enteredIn, alignmentEntry}
-use Rattle.sheet.specs.Format.{Line, value, metadata}
+use Rattle.plan.specs.Header.{contentRead, inserted, entryIn, alignmentEntry}
+use Rattle.sheet.specs.Format.{SheetEntry, value, metadata}
 use Rattle.sheet.specs.Sheet.{stepOf, entryOf}
 use Rattle.sheet.specs.declared.EntryParts.{EntryParts}
 use Rattle.sheet.specs.declared.EntryFound.the-variants.{Found}
 use Rattle.sheet.specs.declared.Stepped.the-variants.{To}
-use Rattle.sheet.proofs.Many.{key-stands}
-use Rattle.sheet.proofs.Parts.{entry-told}
+use Rattle.sheet.proofs.ManyEntries.{key-stands}
+use Rattle.sheet.proofs.PartsFound.{entry-told}
 use Rattle.sheet.proofs.Steps.{entry-yes}
 use Rattle.writer.specs.Output.{comingBefore}
-use Rattle.writer.proofs.Rows.{rows-append, Split, split}
+use Rattle.writer.proofs.RowsWritten.{rows-append, Split, split}
 use Rattle.plan.proofs.Drafts.{added-length}
 
 -- the entry at a place whose parts are x, and which ends at q
 pub record EntryThere (s : List ℕ) (from : ℕ) (x : EntryParts) (q : ℕ) : Type 0 where
-  pub what : Line
+  pub what : SheetEntry
   pub is : accepted what q ≡ run metadata s from
-  pub key : insideOf s (x .key) ≡ what .entered .key
+  pub key : insideOf s (x .key) ≡ what .content .key
   pub ends : To q ≡ stepOf (run (value q (x .form)) s (x .value))
-  pub bytes : (k : Dialect) {b : List ℕ} → b ≡ insideOf s (x .key) → textBytes k b ++ typeBytes k (x .form) ++ saidBytes (suc depth) k (heard (run (value q (x .form)) s (x .value))) ≡ entryBytes k (what .entered)
+  pub bytes : (k : Dialect) {b : List ℕ} → b ≡ insideOf s (x .key) → textBytes k b ++ typeBytes k (x .form) ++ valueBytes (suc depth) k (contentRead (run (value q (x .form)) s (x .value))) ≡ entryBytes k (what .content)
 
 module _ (s : List ℕ) (from : ℕ) where
-  entry-bytes : (e : Line) (q : ℕ) → accepted e q ≡ run metadata s from → (k : Dialect)
-      → textBytes k (insideOf s (e .parts .key)) ++ typeBytes k (e .parts .form) ++ saidBytes (suc depth) k (heard (run (value q (e .parts .form)) s (e .parts .value))) ≡ entryBytes k (e .entered)
+  entry-bytes : (e : SheetEntry) (q : ℕ) → accepted e q ≡ run metadata s from → (k : Dialect)
+      → textBytes k (insideOf s (e .parts .key)) ++ typeBytes k (e .parts .form) ++ valueBytes (suc depth) k (contentRead (run (value q (e .parts .form)) s (e .parts .value))) ≡ entryBytes k (e .content)
   unfolding entryBytes
   entry-bytes e q r k =
       let told = entry-told s from r in
       rw (key-stands s from r, ← told .value, told .typed) refl
 
-  there : (e : Line) (q : ℕ) → accepted e q ≡ run metadata s from → EntryThere s from (e .parts) q
+  there : (e : SheetEntry) (q : ℕ) → accepted e q ≡ run metadata s from → EntryThere s from (e .parts) q
   there e q r = record {
     what = e;
     is = r;
@@ -65,10 +65,10 @@ pub record Passed (s : List ℕ) (n from i : ℕ) : Type 0 where
   pub all : isAccepted (run (times (n - i) metadata) s from) ≡ true
   pub count : comingBefore (got (run (times n metadata) s 1)) ≡ i + comingBefore (got (run (times (n - i) metadata) s from))
 
-coming-here : (i : ℕ) (e : Line) (es : List Line) → before alignmentKey (e .entered .key) ≡ true → i + comingBefore (e ∷ es) ≡ i
+coming-here : (i : ℕ) (e : SheetEntry) (es : List SheetEntry) → before alignmentKey (e .content .key) ≡ true → i + comingBefore (e ∷ es) ≡ i
 coming-here i e es h = rw h (omega arith)
 
-coming-later : (i : ℕ) (e : Line) (es : List Line) → before alignmentKey (e .entered .key) ≡ false → i + comingBefore (e ∷ es) ≡ i + 1 + comingBefore es
+coming-later : (i : ℕ) (e : SheetEntry) (es : List SheetEntry) → before alignmentKey (e .content .key) ≡ false → i + comingBefore (e ∷ es) ≡ i + 1 + comingBefore es
 coming-later i e es h = rw h (omega arith)
 
 module _ (s : List ℕ) (n : ℕ) where
@@ -76,14 +76,14 @@ module _ (s : List ℕ) (n : ℕ) where
   passed-start h = record { low = omega arith; all = rw sub-zero h; count = rw sub-zero (omega arith) }
 
   module _ {from i : ℕ} (h : Passed s n from i) where
-    module _ (below : i < n) {e : Line} {q : ℕ} (is : accepted e q ≡ run metadata s from) where
+    module _ (below : i < n) {e : SheetEntry} {q : ℕ} (is : accepted e q ≡ run metadata s from) where
       turned : comingBefore (got (run (times n metadata) s 1)) ≡ i + comingBefore (e ∷ got (run (times (n - (i + 1)) metadata) s q))
       turned = h .count ∙ ap (λ l. i + comingBefore l) (times-got metadata s from n i below is (h .all))
 
-      pub passed-here : before alignmentKey (e .entered .key) ≡ true → i ≡ comingBefore (got (run (times n metadata) s 1))
+      pub passed-here : before alignmentKey (e .content .key) ≡ true → i ≡ comingBefore (got (run (times n metadata) s 1))
       passed-here t = sym (turned ∙ coming-here i e (got (run (times (n - (i + 1)) metadata) s q)) t)
 
-      pub passed-turn : before alignmentKey (e .entered .key) ≡ false → Passed s n q (i + 1)
+      pub passed-turn : before alignmentKey (e .content .key) ≡ false → Passed s n q (i + 1)
       passed-turn t = record {
         low = omega arith;
         all = times-accepted metadata s from n i below is (h .all);
@@ -100,27 +100,27 @@ coming-by : (b : Bool) (n m : ℕ) → n ≤ m → (if b then 0 else suc n) ≤ 
 coming-by true n m h = omega arith
 coming-by false n m h = omega arith
 
-coming-within : (es : List Line) → comingBefore es ≤ length es
+coming-within : (es : List SheetEntry) → comingBefore es ≤ length es
 coming-within [] = omega arith
-coming-within (e ∷ es) = coming-by (before alignmentKey (e .entered .key)) (comingBefore es) (length es) (coming-within es)
+coming-within (e ∷ es) = coming-by (before alignmentKey (e .content .key)) (comingBefore es) (length es) (coming-within es)
 
-inserted-by : (a : ℕ) (e : Line) (es : List Line) (b : Bool) → inserted a (map enteredIn es) ≡ map enteredIn (take (comingBefore es) es) ++ alignmentEntry a ∷ map enteredIn (drop (comingBefore es) es)
-    → (if b then alignmentEntry a ∷ enteredIn e ∷ map enteredIn es else enteredIn e ∷ inserted a (map enteredIn es))
-    ≡ map enteredIn (take (if b then 0 else suc (comingBefore es)) (e ∷ es)) ++ alignmentEntry a ∷ map enteredIn (drop (if b then 0 else suc (comingBefore es)) (e ∷ es))
+inserted-by : (a : ℕ) (e : SheetEntry) (es : List SheetEntry) (b : Bool) → inserted a (map entryIn es) ≡ map entryIn (take (comingBefore es) es) ++ alignmentEntry a ∷ map entryIn (drop (comingBefore es) es)
+    → (if b then alignmentEntry a ∷ entryIn e ∷ map entryIn es else entryIn e ∷ inserted a (map entryIn es))
+    ≡ map entryIn (take (if b then 0 else suc (comingBefore es)) (e ∷ es)) ++ alignmentEntry a ∷ map entryIn (drop (if b then 0 else suc (comingBefore es)) (e ∷ es))
 inserted-by a e es true h = refl
-inserted-by a e es false h = ap (λ l. enteredIn e ∷ l) h
+inserted-by a e es false h = ap (λ l. entryIn e ∷ l) h
 
 -- it stands between those that come before it and the others
-inserted-between : (a : ℕ) (es : List Line) → inserted a (map enteredIn es) ≡ map enteredIn (take (comingBefore es) es) ++ alignmentEntry a ∷ map enteredIn (drop (comingBefore es) es)
+inserted-between : (a : ℕ) (es : List SheetEntry) → inserted a (map entryIn es) ≡ map entryIn (take (comingBefore es) es) ++ alignmentEntry a ∷ map entryIn (drop (comingBefore es) es)
 inserted-between a [] = refl
-inserted-between a (e ∷ es) = inserted-by a e es (before alignmentKey (e .entered .key)) (inserted-between a es)
+inserted-between a (e ∷ es) = inserted-by a e es (before alignmentKey (e .content .key)) (inserted-between a es)
 
-inserted-rows : (enc : Entered → List ℕ) (a : ℕ) (es : List Line)
-    → rows enc (map enteredIn (take (comingBefore es) es)) ++ enc (alignmentEntry a) ++ rows enc (map enteredIn (drop (comingBefore es) es)) ≡ rows enc (inserted a (map enteredIn es))
-unfolding rows
+inserted-rows : (enc : EntryContent → List ℕ) (a : ℕ) (es : List SheetEntry)
+    → bytesOfAll enc (map entryIn (take (comingBefore es) es)) ++ enc (alignmentEntry a) ++ bytesOfAll enc (map entryIn (drop (comingBefore es) es)) ≡ bytesOfAll enc (inserted a (map entryIn es))
+unfolding bytesOfAll
 inserted-rows enc a es =
-    append-assoc (rows enc (map enteredIn (take (comingBefore es) es))) (enc (alignmentEntry a)) (rows enc (map enteredIn (drop (comingBefore es) es)))
-    ∙ sym (ap (rows enc) (inserted-between a es) ∙ rows-append enc (map enteredIn (take (comingBefore es) es)) (alignmentEntry a ∷ map enteredIn (drop (comingBefore es) es)))
+    append-assoc (bytesOfAll enc (map entryIn (take (comingBefore es) es))) (enc (alignmentEntry a)) (bytesOfAll enc (map entryIn (drop (comingBefore es) es)))
+    ∙ sym (ap (bytesOfAll enc) (inserted-between a es) ∙ rows-append enc (map entryIn (take (comingBefore es) es)) (alignmentEntry a ∷ map entryIn (drop (comingBefore es) es)))
 
 three-sizes : (x y z : List ℕ) {l : List ℕ} {m : ℕ} → x ++ y ++ z ≡ l → length y ≡ m → length l ≡ length x + m + length z
 three-sizes x y z {l} {m} e i = sym (ap length e) ∙ length-append (x ++ y) z ∙ ap (λ n. n + length z) (length-append x y ∙ ap (λ n. length x + n) i)
@@ -130,8 +130,8 @@ got-there (accepted l e) h = (e, refl)
 got-there (refused n p) h = let z : _≡_ {A = ℕ} 0 1 = cc in absurd (omega arith)
 
 -- the bytes of the entries that were read
-abbrev pub written : Dialect → Answer (List Line) → List ℕ
-written k r = rows (entryBytes k) (map enteredIn (got r))
+abbrev pub written : Dialect → Answer (List SheetEntry) → List ℕ
+written k r = bytesOfAll (entryBytes k) (map entryIn (got r))
 
 -- total entries of a sheet, n of them before the place q and the others from it on: the alignment's own stands between them
 pub record Apart (k : Dialect) (a : ℕ) (s : List ℕ) (total n q : ℕ) : Type 0 where
@@ -140,13 +140,13 @@ pub record Apart (k : Dialect) (a : ℕ) (s : List ℕ) (total n q : ℕ) : Type
   pub lower : isAccepted (run (times n metadata) s 1) ≡ true
   pub upper : isAccepted (run (times (total - n) metadata) s q) ≡ true
   pub bytes : written k (run (times n metadata) s 1) ++ entryBytes k (alignmentEntry a) ++ written k (run (times (total - n) metadata) s q)
-      ≡ rows (entryBytes k) (inserted a (map enteredIn (got (run (times total metadata) s 1))))
-  pub size : length (rows (entryBytes k) (inserted a (map enteredIn (got (run (times total metadata) s 1)))))
+      ≡ bytesOfAll (entryBytes k) (inserted a (map entryIn (got (run (times total metadata) s 1))))
+  pub size : length (bytesOfAll (entryBytes k) (inserted a (map entryIn (got (run (times total metadata) s 1)))))
       ≡ length (written k (run (times n metadata) s 1)) + (sizeWidth k + 25) + length (written k (run (times (total - n) metadata) s q))
 
 module _ (k : Dialect) (a : ℕ) (s : List ℕ) (total : ℕ) (all : isAccepted (run (times total metadata) s 1) ≡ true) where
-  parts-bytes : (es : List Line) (n : ℕ) (r u : Answer (List Line)) → n ≡ comingBefore es → take n es ≡ got r → drop n es ≡ got u
-      → written k r ++ entryBytes k (alignmentEntry a) ++ written k u ≡ rows (entryBytes k) (inserted a (map enteredIn es))
+  parts-bytes : (es : List SheetEntry) (n : ℕ) (r u : Answer (List SheetEntry)) → n ≡ comingBefore es → take n es ≡ got r → drop n es ≡ got u
+      → written k r ++ entryBytes k (alignmentEntry a) ++ written k u ≡ bytesOfAll (entryBytes k) (inserted a (map entryIn es))
   parts-bytes es n r u j h i = rw (← h, ← i, j) (inserted-rows (entryBytes k) a es)
 
   apart-of : (n e : ℕ) → n ≡ comingBefore (got (run (times total metadata) s 1)) → n ≤ total → (h : Split metadata s n (total - n) 1 (got (run (times total metadata) s 1)) e) → Apart k a s total n (h .mid)

@@ -1,7 +1,7 @@
 pub mod Scalars
 pub mod Loops
-pub mod Said
-pub mod Rows
+pub mod ValuesWritten
+pub mod RowsWritten
 pub mod Entries
 pub mod Tensors
 pub mod Planned

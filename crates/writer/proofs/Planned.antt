@@ -7,32 +7,32 @@ use native.Mathlib.Omega.{arith}
 use borrow.Author.Tests.{leb-true}
 use lib.Dec.{leb}
 use lib.ListN.{length, drop, replicate, length-append, length-replicate}
-use Rattle.reading.specs.Back.{got, rows}
+use Rattle.reading.specs.Back.{got, bytesOfAll}
 use Rattle.fields.specs.Bytes.{Wrote}
 use Rattle.reading.specs.Choice.{if_then_else_}
 use Rattle.reading.specs.Each.{each, times}
 use Rattle.reading.specs.Reading.{Answer, accepted, refused, run, isAccepted, done, _>>=_}
-use Rattle.reading.proofs.Laws.{bind-inv}
+use Rattle.reading.proofs.RunLaws.{bind-inv}
 use Rattle.layout.specs.declared.Laid.{Laid}
 use Rattle.layout.specs.Layout.{nothingLaid, layoutOf}
 use Rattle.values.specs.declared.Dialect.{Dialect}
 use Rattle.values.specs.Format.{sizeWidth}
-use Rattle.values.specs.Contents.{Entered, entryBytes}
+use Rattle.values.specs.Contents.{EntryContent, entryBytes}
 use Rattle.tensors.specs.Contents.{tensorBytes}
 use Rattle.start.specs.Contents.{startBytes}
 use Rattle.header.specs.Contents.{startIn, headerBytes}
 use Rattle.start.specs.Format.{knownVersion}
-use Rattle.sheet.specs.Format.{Line, Drawn, metadata, tensor}
+use Rattle.sheet.specs.Format.{SheetEntry, SheetTensor, metadata, tensor}
 use Rattle.sheet.specs.Sheet.{Records, sheetOf}
-use Rattle.sheet.proofs.Parts.{entry-ends}
-use Rattle.sheet.proofs.Whole.{sheet-entries, sheet-tensors}
+use Rattle.sheet.proofs.PartsFound.{entry-ends}
+use Rattle.sheet.proofs.WholeSheet.{sheet-entries, sheet-tensors}
 use Rattle.plan.specs.declared.Draft.{Draft}
 use Rattle.plan.specs.declared.Plan.{Plan}
 use Rattle.plan.specs.declared.Planned.{Planned}
 use Rattle.plan.specs.declared.Planned.the-variants.{Fine, Refused}
 use Rattle.plan.specs.declared.LaidOut.{LaidOut}
 use Rattle.plan.specs.declared.LaidOut.the-variants.{Fits, Refused as NotLaid}
-use Rattle.plan.specs.Header.{saidIn, inserted, enteredIn, entriesWith, entriesOf, pieceOf, weightsFrom, laidWith, sheetFor, recordsIn, endOf, startOf}
+use Rattle.plan.specs.Header.{ownAlignment, inserted, entryIn, entriesWith, entriesOf, pieceOf, laidFrom, laidWith, headerContents, recordsIn, endOf, startOf}
 use Rattle.plan.specs.Plan.{requireFormed, require, requireLaid, isAlignment, canAdd, agrees, laidOf, countsFit, draftOf, planOf, planFor}
 use Rattle.plan.specs.Steps.{aligned}
 use Rattle.plan.proofs.Sizes.{start-length}
@@ -46,8 +46,8 @@ pub record PlannedBy (k : Dialect) (a room : ℕ) (s : List ℕ) (plan : Plan) :
   pub is : accepted records end ≡ sheetOf s
   pub version : knownVersion (k .version) ≡ true
   pub aligned : isAlignment a ≡ true
-  pub added : canAdd a (saidIn (records .entries)) ≡ true
-  pub agreed : agrees a (saidIn (records .entries)) ≡ true
+  pub added : canAdd a (ownAlignment (records .entries)) ≡ true
+  pub agreed : agrees a (ownAlignment (records .entries)) ≡ true
   pub fits : Fits ≡ laidOf (layoutOf a (map pieceOf (records .tensors)))
   pub counted : countsFit k (length (entriesOf a (records .entries))) (length (records .tensors)) ≡ true
   pub within : startOf k a records ≤ room
@@ -67,8 +67,8 @@ module _ (k : Dialect) (a room : ℕ) (s : List ℕ) {plan : Plan} where
   by v (refused n p) h e = let z : _≡_ {A = ℕ} 0 1 = cc in absurd (omega arith)
   by v (accepted c q) h e =
       let one = passed (isAlignment a) 32 0 _ e in
-      let two = passed (canAdd a (saidIn (c .entries))) 33 0 _ (one .1) in
-      let three = passed (agrees a (saidIn (c .entries))) 34 0 _ (two .1) in
+      let two = passed (canAdd a (ownAlignment (c .entries))) 33 0 _ (one .1) in
+      let three = passed (agrees a (ownAlignment (c .entries))) 34 0 _ (two .1) in
       let four = passed-laid (laidOf (layoutOf a (map pieceOf (c .tensors)))) _ (three .1) in
       let five = passed (countsFit k (length (entriesOf a (c .entries))) (length (c .tensors))) 37 0 _ (four .1) in
       let six = passed (leb (startOf k a c) room) 38 0 _ (five .1) in
@@ -91,7 +91,7 @@ module _ (k : Dialect) (a room : ℕ) (s : List ℕ) {plan : Plan} where
   planned-by e = let v = passed (knownVersion (k .version)) 30 0 _ e in by (v .0) (sheetOf s) refl (v .1)
 
 -- there are as many tensors in the header as in the sheet
-pub length-weights : (a : ℕ) (laid : Laid) (ts : List Drawn) → length (weightsFrom a laid ts) ≡ length ts
+pub length-weights : (a : ℕ) (laid : Laid) (ts : List SheetTensor) → length (laidFrom a laid ts) ≡ length ts
 length-weights a laid [] = refl
 length-weights a laid (t ∷ ts) = ap suc (length-weights a (laidWith a laid t) ts)
 
@@ -100,7 +100,7 @@ count-cases true n = refl
 count-cases false n = omega arith
 
 -- every entry takes bytes, so that there are no more entries than bytes
-entries-short : (s : List ℕ) (n p : ℕ) {l : List Line} {q : ℕ} → accepted l q ≡ run (times n metadata) s p → (p + n ≤ q) × (q ≤ max p (length s))
+entries-short : (s : List ℕ) (n p : ℕ) {l : List SheetEntry} {q : ℕ} → accepted l q ≡ run (times n metadata) s p → (p + n ≤ q) × (q ≤ max p (length s))
 unfolding each run
 entries-short s zero p {l} {q} e =
     let k : q ≡ p = cc in
@@ -137,12 +137,12 @@ module _ {k : Dialect} {a room : ℕ} {s : List ℕ} {plan : Plan} (p : PlannedB
   start = startBytes (record { dialect = k; tensors = plan .draft .tensors; entries = entryCount (plan .draft) })
 
   abbrev entries : List ℕ
-  entries = rows (entryBytes k) (entriesWith (plan .draft .adds) a (got (run (times (plan .draft .entries) metadata) s 1)))
+  entries = bytesOfAll (entryBytes k) (entriesWith (plan .draft .adds) a (got (run (times (plan .draft .entries) metadata) s 1)))
 
   abbrev tensors : List ℕ
-  tensors = rows (tensorBytes k) (weightsFrom a nothingLaid (got (run (times (plan .draft .tensors) tensor) s (plan .draft .first))))
+  tensors = bytesOfAll (tensorBytes k) (laidFrom a nothingLaid (got (run (times (plan .draft .tensors) tensor) s (plan .draft .first))))
 
-  same-start : start ≡ startBytes (startIn k (sheetFor a (p .records)))
+  same-start : start ≡ startBytes (startIn k (headerContents a (p .records)))
   same-start = rw (p .told, length-weights, entries-count, count-cases)
 
   pub header-parts : headerFor k a s ≡ start ++ entries ++ tensors

@@ -8,7 +8,7 @@ use lib.Dec.{leb, eqb}
 use Rattle.reading.specs.Choice.{if_then_else_}
 use Rattle.reading.specs.Reading.{accepted, refused, run, andThen, isAccepted, check, done, _>>_, _>>=_}
 use Rattle.fields.specs.Value.{number}
-use Rattle.reading.proofs.Laws.{run-bind, goes-on, stops}
+use Rattle.reading.proofs.RunLaws.{run-bind, goes-on, stops}
 use Rattle.scalars.specs.Scalars.{scalarWidth}
 use Rattle.sheet.specs.Format.{scalar}
 use Rattle.writer.specs.Output.{numberIn}

@@ -8,11 +8,11 @@ use native.Mathlib.Numerals.{add-one}
 use borrow.Author.Tests.{le-leb}
 use lib.ListN.{length, length-append}
 use borrow.Rule.Slice.PartMut.{midOf, putMid}
-use Rattle.reading.specs.Back.{got, rows}
+use Rattle.reading.specs.Back.{got, bytesOfAll}
 use Rattle.fields.specs.Bytes.{Wrote}
 use Rattle.reading.specs.Each.{times}
 use Rattle.reading.specs.Reading.{accepted, refused, run, isAccepted}
-use Rattle.reading.proofs.Turns.{times-accepted, times-got, times-never, times-ends}
+use Rattle.reading.proofs.Repetition.{times-accepted, times-got, times-never, times-ends}
 use Rattle.layout.specs.declared.Laid.{Laid}
 use Rattle.layout.specs.declared.Placed.the-variants.{At, Refused}
 use Rattle.layout.specs.Layout.{nothingLaid, placeOf, layoutFrom, layoutOf}
@@ -20,32 +20,32 @@ use Rattle.layout.proofs.Places.{layout-stops, layout-goes-on, placed-by}
 use Rattle.values.specs.declared.Dialect.{Dialect}
 use Rattle.values.specs.Format.{sizeWidth}
 use Rattle.tensors.specs.Format.{lengths}
-use Rattle.tensors.specs.Contents.{Weight, tensorBytes}
+use Rattle.tensors.specs.Contents.{TensorContent, tensorBytes, contentOf}
 use Rattle.values.specs.Contents.{insideOf}
 use Rattle.sheet.specs.declared.TensorParts.{TensorParts}
-use Rattle.sheet.specs.Format.{Drawn, tensor}
-use Rattle.sheet.proofs.Parts.{tensor-told}
+use Rattle.sheet.specs.Format.{SheetTensor, tensor}
+use Rattle.sheet.proofs.PartsFound.{tensor-told}
 use Rattle.plan.specs.declared.LaidOut.the-variants.{Fits}
-use Rattle.plan.specs.Header.{pieceOf, weightAt, laidWith, weightsFrom}
+use Rattle.plan.specs.Header.{pieceOf, contentAt, laidWith, laidFrom}
 use Rattle.plan.specs.Plan.{laidOf}
 use Rattle.plan.proofs.Sizes.{tensor-length}
-use Rattle.plan.proofs.Turns.{laid-ahead}
+use Rattle.plan.proofs.PlanTurns.{laid-ahead}
 use Rattle.writer.specs.Output.{shapeSize}
 use Rattle.writer.proofs.Loops.{Part, part-start, part-turn, part-end, part-room}
 
 -- the name of a tensor is what stands at its place
-name-stands : (s : List ℕ) (p : ℕ) {t : Drawn} {q : ℕ} → accepted t q ≡ run tensor s p → insideOf s (t .parts .name) ≡ t .name
+name-stands : (s : List ℕ) (p : ℕ) {t : SheetTensor} {q : ℕ} → accepted t q ≡ run tensor s p → insideOf s (t .parts .name) ≡ t .name
 name-stands s p {t} {q} e =
     let h = tensor-told s p e in
     rw (le-leb _ _ (h .there)) (h .name)
 
 module _ (k : Dialect) (a : ℕ) (s : List ℕ) (m : ℕ) where
   -- the tensors that are left, and their bytes
-  abbrev leftFrom : ℕ → ℕ → List Drawn
+  abbrev leftFrom : ℕ → ℕ → List SheetTensor
   leftFrom i from = got (run (times (m - i) tensor) s from)
 
   abbrev bytesFrom : ℕ → ℕ → Laid → List ℕ
-  bytesFrom i from laid = rows (tensorBytes k) (weightsFrom a laid (leftFrom i from))
+  bytesFrom i from laid = bytesOfAll (tensorBytes k) (laidFrom a laid (leftFrom i from))
 
   -- how far the loop is
   pub record Going (o out : List ℕ) (at from : ℕ) (laid : Laid) (i : ℕ) (whole : List ℕ) : Type 0 where
@@ -56,10 +56,10 @@ module _ (k : Dialect) (a : ℕ) (s : List ℕ) (m : ℕ) where
 
   -- at the start all is left
   pub going-start : (o : List ℕ) (first : ℕ) → isAccepted (run (times m tensor) s first) ≡ true → Fits ≡ laidOf (layoutOf a (map pieceOf (got (run (times m tensor) s first))))
-      → Going o o 0 first nothingLaid 0 (rows (tensorBytes k) (weightsFrom a nothingLaid (got (run (times m tensor) s first))))
+      → Going o o 0 first nothingLaid 0 (bytesOfAll (tensorBytes k) (laidFrom a nothingLaid (got (run (times m tensor) s first))))
   going-start o first all fits =
       let z : m - 0 ≡ m = omega arith in
-      record { below = omega arith; all = rw z all; fits = rw z fits; part = rw z (part-start o (rows (tensorBytes k) (weightsFrom a nothingLaid (got (run (times m tensor) s first))))) }
+      record { below = omega arith; all = rw z all; fits = rw z fits; part = rw z (part-start o (bytesOfAll (tensorBytes k) (laidFrom a nothingLaid (got (run (times m tensor) s first))))) }
 
   module _ {o out : List ℕ} {at from : ℕ} {laid : Laid} {i : ℕ} {whole : List ℕ} (g : Going o out at from laid i whole) where
     pub going-none : i < m → {w p : ℕ} → refused w p ≡ run tensor s from → ⊥
@@ -67,13 +67,13 @@ module _ (k : Dialect) (a : ℕ) (s : List ℕ) (m : ℕ) where
 
     -- at the end nothing is
     pub going-end : m ≤ i → Wrote whole o out at
-    unfolding rows
-    going-end done = part-end (g .part) (ap (λ r. rows (tensorBytes k) (weightsFrom a laid (got r))) (times-ends tensor s from m i done))
+    unfolding bytesOfAll
+    going-end done = part-end (g .part) (ap (λ r. bytesOfAll (tensorBytes k) (laidFrom a laid (got r))) (times-ends tensor s from m i done))
 
     pub going-within : length whole ≤ length o → at ≤ length out
     going-within room = let r = part-room (g .part) room in omega arith
 
-    module _ (below : i < m) {t : Drawn} {q : ℕ} (e : accepted t q ≡ run tensor s from) where
+    module _ (below : i < m) {t : SheetTensor} {q : ℕ} (e : accepted t q ≡ run tensor s from) where
       next-left : leftFrom i from ≡ t ∷ leftFrom (i + 1) q
       next-left = times-got tensor s from m i below e (g .all)
 
@@ -83,19 +83,19 @@ module _ (k : Dialect) (a : ℕ) (s : List ℕ) (m : ℕ) where
           let z : _≡_ {A = ℕ} 0 1 = cc in
           omega arith
 
-      bytes-left : bytesFrom i from laid ≡ tensorBytes k (weightAt t (laid .next)) ++ bytesFrom (i + 1) q (laidWith a laid t)
-      unfolding rows
-      bytes-left = ap (λ l. rows (tensorBytes k) (weightsFrom a laid l)) next-left
+      bytes-left : bytesFrom i from laid ≡ tensorBytes k (contentAt t (laid .next)) ++ bytesFrom (i + 1) q (laidWith a laid t)
+      unfolding bytesOfAll
+      bytes-left = ap (λ l. bytesOfAll (tensorBytes k) (laidFrom a laid l)) next-left
 
       own-room : length whole ≤ length o → at + (sizeWidth k + length (t .name) + shapeSize (t .parts .shape .dimensions) + 12) ≤ length out
       own-room room =
           let r = part-room (g .part) room in
-          let b = ap length bytes-left ∙ length-append (tensorBytes k (weightAt t (laid .next))) _ in
-          let c = tensor-length k (weightAt t (laid .next)) in
+          let b = ap length bytes-left ∙ length-append (tensorBytes k (contentAt t (laid .next))) _ in
+          let c = tensor-length k (contentAt t (laid .next)) in
           omega arith
 
       goes-on : {offset size : ℕ} {after : Laid} → placeOf a laid (lengths (t .parts .shape)) (t .parts .kind) ≡ At offset size after
-          → (ys : List ℕ) (n : ℕ) → Wrote (tensorBytes k (weightAt t offset)) (midOf at (length out - at) out) ys n → length ys ≡ length (midOf at (length out - at) out)
+          → (ys : List ℕ) (n : ℕ) → Wrote (tensorBytes k (contentAt t offset)) (midOf at (length out - at) out) ys n → length ys ≡ length (midOf at (length out - at) out)
           → Going o (putMid at (length out - at) out ys) (at + n) q after (i + 1) whole
       goes-on {offset} {size} {after} r ys n w same =
           let p = placed-by a laid (lengths (t .parts .shape)) (t .parts .kind) r in
@@ -118,10 +118,10 @@ module _ (k : Dialect) (a : ℕ) (s : List ℕ) (m : ℕ) where
         pub going-room : length whole ≤ length o → at + (sizeWidth k + length (insideOf s (x .name)) + shapeSize (x .shape .dimensions) + 12) ≤ length out
         going-room room = rw (told, name-stands s from e) (own-room room)
 
-        written-alike : {offset : ℕ} → _≡_ {A = Weight} (record { name = insideOf s (x .name); shape = x .shape; kind = x .kind; offset = offset }) (weightAt t offset)
+        written-alike : {offset : ℕ} → _≡_ {A = TensorContent} (contentOf (insideOf s (x .name)) (x .shape) (x .kind) offset) (contentAt t offset)
         written-alike = rw (told, name-stands s from e)
 
         pub going-on : {offset size : ℕ} {after : Laid} → placeOf a laid (lengths (x .shape)) (x .kind) ≡ At offset size after
-            → (ys : List ℕ) (n : ℕ) → Wrote (tensorBytes k (record { name = insideOf s (x .name); shape = x .shape; kind = x .kind; offset = offset })) (midOf at (length out - at) out) ys n
+            → (ys : List ℕ) (n : ℕ) → Wrote (tensorBytes k (contentOf (insideOf s (x .name)) (x .shape) (x .kind) offset)) (midOf at (length out - at) out) ys n
             → length ys ≡ length (midOf at (length out - at) out) → Going o (putMid at (length out - at) out ys) (at + n) q after (i + 1) whole
         going-on r ys n w same = goes-on (placed-alike ∙ r) ys n (rw written-alike at w) same

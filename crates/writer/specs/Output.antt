@@ -9,12 +9,12 @@ use Rattle.reading.specs.Reading.{Answer, accepted, refused}
 use Rattle.values.specs.declared.Dialect.{Dialect}
 use Rattle.values.specs.Format.{alignmentKey}
 use Rattle.header.specs.Contents.{headerBytes}
-use Rattle.sheet.specs.Format.{Line}
+use Rattle.sheet.specs.Format.{SheetEntry}
 use Rattle.sheet.specs.Sheet.{sheetOf}
 use Rattle.plan.specs.declared.Draft.{Draft}
 use Rattle.plan.specs.declared.Planned.{Planned}
 use Rattle.plan.specs.declared.Planned.the-variants.{Fine, Refused}
-use Rattle.plan.specs.Header.{sheetFor, recordsIn}
+use Rattle.plan.specs.Header.{headerContents, recordsIn}
 use Rattle.writer.specs.declared.HeaderWritten.{HeaderWritten}
 use Rattle.writer.specs.declared.HeaderWritten.the-variants.{Written, Refused as NotWritten}
 
@@ -25,7 +25,7 @@ writtenOf (Refused n p) = NotWritten n p
 
 -- the bytes of the header of a sheet
 unfoldable pub headerFor : Dialect → ℕ → List ℕ → List ℕ
-headerFor k a s = headerBytes k (sheetFor a (recordsIn (sheetOf s)))
+headerFor k a s = headerBytes k (headerContents a (recordsIn (sheetOf s)))
 
 -- the output then: the header, zeros up to the start of its data, and what was there after that; at a refusal all is as it was
 abbrev pub leftBy : Planned → List ℕ → List ℕ → List ℕ
@@ -49,6 +49,6 @@ numberIn (accepted v q) = v
 numberIn (refused n p) = 0
 
 -- how many entries stand before the place of the alignment's own
-abbrev pub comingBefore : List Line → ℕ
+abbrev pub comingBefore : List SheetEntry → ℕ
 comingBefore [] = 0
-comingBefore (e ∷ es) = if before alignmentKey (e .entered .key) then 0 else suc (comingBefore es)
+comingBefore (e ∷ es) = if before alignmentKey (e .content .key) then 0 else suc (comingBefore es)

@@ -22,14 +22,14 @@ ghost use Prim.Native.Nat.{ℕ, suc, _+_, _≤_, _<_};
 ghost use lib.ListN.{length};
 ghost use Rattle.reading.specs.Reading.{run, isAccepted};
 ghost use Rattle.reading.specs.Each.{times};
-ghost use Rattle.reading.specs.Back.{got, rows};
+ghost use Rattle.reading.specs.Back.{got, bytesOfAll};
 ghost use Rattle.fields.specs.Bytes.{bytesOf, Wrote};
 ghost use Rattle.fields.specs.Value.{widthOf};
 ghost use Rattle.layout.specs.Layout.{nothingLaid, layoutOf};
 ghost use Rattle.values.specs.Format.{sizeWidth, depth};
 ghost use Rattle.scalars.specs.Scalars.{scalarWidth};
 ghost use Rattle.values.specs.Contents as contents;
-ghost use Rattle.tensors.specs.Contents.{lengthBytes, shapeBytes, storedBytes, tensorBytes};
+ghost use Rattle.tensors.specs.Contents.{contentOf, lengthBytes, shapeBytes, kindAndOffsetBytes, tensorBytes};
 ghost use Rattle.start.specs.Format.{littleMagic};
 ghost use Rattle.start.specs.Contents.{startBytes};
 ghost use Rattle.header.specs.Contents.{headerBytes};
@@ -110,8 +110,8 @@ fn write_scalar(
 // An item of an array, which is there.
 fn write_item(out: &mut [u8], s: &[u8], at: usize, t: u64, dialect: Dialect) -> Copied
     requires { ⌜ isAccepted (run (format.item depth t) (now s) at) ≡ true ⌝ }
-    requires { ⌜ length (contents.saidBytes depth dialect (header_of.heard (run (format.item depth t) (now s) at))) ≤ length (now out) ⌝ }
-    ensures { λ r. ⌜ Wrote (contents.saidBytes depth dialect (header_of.heard (run (format.item depth t) (now (s .entry)) at))) (now (out .entry)) (now (out .exit)) (r .written) ⌝ }
+    requires { ⌜ length (contents.valueBytes depth dialect (header_of.contentRead (run (format.item depth t) (now s) at))) ≤ length (now out) ⌝ }
+    ensures { λ r. ⌜ Wrote (contents.valueBytes depth dialect (header_of.contentRead (run (format.item depth t) (now (s .entry)) at))) (now (out .entry)) (now (out .exit)) (r .written) ⌝ }
     ensures { λ r. ⌜ To (r .next) ≡ stepOf (run (format.item depth t) (now (s .entry)) at) ⌝ }
 {
     match scalars::scalar_width(t) {
@@ -138,8 +138,8 @@ fn write_item(out: &mut [u8], s: &[u8], at: usize, t: u64, dialect: Dialect) -> 
 // n items of the type t, which are all there.
 fn write_items(out: &mut [u8], s: &[u8], at: usize, n: u64, t: u64, dialect: Dialect) -> usize
     requires { ⌜ isAccepted (run (times n (format.item depth t)) (now s) at) ≡ true ⌝ }
-    requires { ⌜ length (rows (contents.saidBytes depth dialect) (got (run (times n (format.item depth t)) (now s) at))) ≤ length (now out) ⌝ }
-    ensures { λ r. ⌜ Wrote (rows (contents.saidBytes depth dialect) (got (run (times n (format.item depth t)) (now (s .entry)) at))) (now (out .entry)) (now (out .exit)) r ⌝ }
+    requires { ⌜ length (bytesOfAll (contents.valueBytes depth dialect) (got (run (times n (format.item depth t)) (now s) at))) ≤ length (now out) ⌝ }
+    ensures { λ r. ⌜ Wrote (bytesOfAll (contents.valueBytes depth dialect) (got (run (times n (format.item depth t)) (now (s .entry)) at))) (now (out .entry)) (now (out .exit)) r ⌝ }
 {
     let mut from = at;
     let mut done: usize = 0;
@@ -156,8 +156,8 @@ fn write_items(out: &mut [u8], s: &[u8], at: usize, n: u64, t: u64, dialect: Dia
 // An array, which is there: its item type, its count and its items.
 fn write_array_payload(out: &mut [u8], s: &[u8], at: usize, dialect: Dialect) -> usize
     requires { ⌜ isAccepted (run (format.array depth (format.item depth)) (now s) at) ≡ true ⌝ }
-    requires { ⌜ length (contents.saidBytes (suc depth) dialect (header_of.heard (run (format.array depth (format.item depth)) (now s) at))) ≤ length (now out) ⌝ }
-    ensures { λ r. ⌜ Wrote (contents.saidBytes (suc depth) dialect (header_of.heard (run (format.array depth (format.item depth)) (now (s .entry)) at))) (now (out .entry)) (now (out .exit)) r ⌝ }
+    requires { ⌜ length (contents.valueBytes (suc depth) dialect (header_of.contentRead (run (format.array depth (format.item depth)) (now s) at))) ≤ length (now out) ⌝ }
+    ensures { λ r. ⌜ Wrote (contents.valueBytes (suc depth) dialect (header_of.contentRead (run (format.array depth (format.item depth)) (now (s .entry)) at))) (now (out .entry)) (now (out .exit)) r ⌝ }
 {
     let Number::Value { value: t, next: p } = fields::number_at(s, at, Width::One, true) else {
         return 0;
@@ -180,8 +180,8 @@ fn write_metadata_value(
     dialect: Dialect,
 ) -> usize
     requires { ⌜ To end ≡ stepOf (run (format.value end form) (now s) at) ⌝ }
-    requires { ⌜ length (contents.saidBytes (suc depth) dialect (header_of.heard (run (format.value end form) (now s) at))) ≤ length (now out) ⌝ }
-    ensures { λ r. ⌜ Wrote (contents.saidBytes (suc depth) dialect (header_of.heard (run (format.value end form) (now (s .entry)) at))) (now (out .entry)) (now (out .exit)) r ⌝ }
+    requires { ⌜ length (contents.valueBytes (suc depth) dialect (header_of.contentRead (run (format.value end form) (now s) at))) ≤ length (now out) ⌝ }
+    ensures { λ r. ⌜ Wrote (contents.valueBytes (suc depth) dialect (header_of.contentRead (run (format.value end form) (now (s .entry)) at))) (now (out .entry)) (now (out .exit)) r ⌝ }
 {
     match scalars::scalar_width(form) {
         ScalarWidth::Of { width } => write_scalar(out, s, at, form, width, dialect),
@@ -205,8 +205,8 @@ fn write_entry(
     dialect: Dialect,
 ) -> usize
     requires { ⌜ To end ≡ stepOf (run (format.value end form) (now s) at) ⌝ }
-    requires { ⌜ sizeWidth dialect + length (now key) + 4 + length (contents.saidBytes (suc depth) dialect (header_of.heard (run (format.value end form) (now s) at))) ≤ length (now out) ⌝ }
-    ensures { λ r. ⌜ Wrote (contents.textBytes dialect (now (key .entry)) ++ contents.typeBytes dialect form ++ contents.saidBytes (suc depth) dialect (header_of.heard (run (format.value end form) (now (s .entry)) at))) (now (out .entry)) (now (out .exit)) r ⌝ }
+    requires { ⌜ sizeWidth dialect + length (now key) + 4 + length (contents.valueBytes (suc depth) dialect (header_of.contentRead (run (format.value end form) (now s) at))) ≤ length (now out) ⌝ }
+    ensures { λ r. ⌜ Wrote (contents.textBytes dialect (now (key .entry)) ++ contents.typeBytes dialect form ++ contents.valueBytes (suc depth) dialect (header_of.contentRead (run (format.value end form) (now (s .entry)) at))) (now (out .entry)) (now (out .exit)) r ⌝ }
 {
     let a = write_string(out, key, dialect);
     let b = a + write_type(&mut out[a..], form, dialect);
@@ -216,15 +216,15 @@ fn write_entry(
 // n entries from a place on, which are all there.
 fn write_entries(out: &mut [u8], s: &[u8], at: usize, n: usize, dialect: Dialect) -> Copied
     requires { ⌜ isAccepted (run (times n format.metadata) (now s) at) ≡ true ⌝ }
-    requires { ⌜ length (rows (contents.entryBytes dialect) (map header_of.enteredIn (got (run (times n format.metadata) (now s) at)))) ≤ length (now out) ⌝ }
-    ensures { λ r. ⌜ Wrote (rows (contents.entryBytes dialect) (map header_of.enteredIn (got (run (times n format.metadata) (now (s .entry)) at)))) (now (out .entry)) (now (out .exit)) (r .written) ⌝ }
+    requires { ⌜ length (bytesOfAll (contents.entryBytes dialect) (map header_of.entryIn (got (run (times n format.metadata) (now s) at)))) ≤ length (now out) ⌝ }
+    ensures { λ r. ⌜ Wrote (bytesOfAll (contents.entryBytes dialect) (map header_of.entryIn (got (run (times n format.metadata) (now (s .entry)) at)))) (now (out .entry)) (now (out .exit)) (r .written) ⌝ }
     ensures { λ r. ⌜ To (r .next) ≡ stepOf (run (times n format.metadata) (now (s .entry)) at) ⌝ }
 {
     let mut from = at;
     let mut done: usize = 0;
     let mut i: usize = 0;
     while i < n {
-        let entry = sheet::entry_again(s, from);
+        let entry = sheet::known_entry(s, from);
         let parts = entry.parts;
         let key = parts.key;
         done += write_entry(
@@ -264,7 +264,7 @@ fn entries_before(s: &[u8], n: usize) -> usize
     let mut from: usize = 1;
     let mut i: usize = 0;
     while i < n {
-        let entry = sheet::entry_again(s, from);
+        let entry = sheet::known_entry(s, from);
         let parts = entry.parts;
         let key = parts.key;
         if fields::comes_before(b"general.alignment", values::inside(s, key)) {
@@ -285,8 +285,8 @@ fn write_metadata_section(
     dialect: Dialect,
 ) -> usize
     requires { ⌜ isAccepted (run (times (draft .entries) format.metadata) (now s) 1) ≡ true ⌝ }
-    requires { ⌜ length (rows (contents.entryBytes dialect) (header_of.entriesWith (draft .adds) alignment (got (run (times (draft .entries) format.metadata) (now s) 1)))) ≤ length (now out) ⌝ }
-    ensures { λ r. ⌜ Wrote (rows (contents.entryBytes dialect) (header_of.entriesWith (draft .adds) alignment (got (run (times (draft .entries) format.metadata) (now (s .entry)) 1)))) (now (out .entry)) (now (out .exit)) r ⌝ }
+    requires { ⌜ length (bytesOfAll (contents.entryBytes dialect) (header_of.entriesWith (draft .adds) alignment (got (run (times (draft .entries) format.metadata) (now s) 1)))) ≤ length (now out) ⌝ }
+    ensures { λ r. ⌜ Wrote (bytesOfAll (contents.entryBytes dialect) (header_of.entriesWith (draft .adds) alignment (got (run (times (draft .entries) format.metadata) (now (s .entry)) 1)))) (now (out .entry)) (now (out .exit)) r ⌝ }
 {
     if draft.adds {
         let n = entries_before(s, draft.entries);
@@ -344,10 +344,10 @@ fn write_shape(out: &mut [u8], x: Shape, dialect: Dialect) -> usize
 }
 
 // The kind and the offset.
-fn write_stored(out: &mut [u8], kind: u64, offset: u64, dialect: Dialect) -> usize
+fn write_kind_and_offset(out: &mut [u8], kind: u64, offset: u64, dialect: Dialect) -> usize
     requires { ⌜ 12 ≤ length (now out) ⌝ }
     ensures { λ r. ⌜ r ≡ 12 ⌝ }
-    ensures { λ r. ⌜ Wrote (storedBytes dialect kind offset) (now (out .entry)) (now (out .exit)) r ⌝ }
+    ensures { λ r. ⌜ Wrote (kindAndOffsetBytes dialect kind offset) (now (out .entry)) (now (out .exit)) r ⌝ }
 {
     let a = write_type(out, kind, dialect);
     a + fields::put_number(&mut out[a..], offset, Width::Eight, dialect.big)
@@ -364,11 +364,11 @@ fn write_tensor_info(
 ) -> usize
     requires { ⌜ sizeWidth dialect + length (now name) + output.shapeSize (shape .dimensions) + 12 ≤ length (now out) ⌝ }
     ensures { λ r. ⌜ r ≡ sizeWidth dialect + length (now (name .entry)) + output.shapeSize (shape .dimensions) + 12 ⌝ }
-    ensures { λ r. ⌜ Wrote (tensorBytes dialect (record { name = now (name .entry); shape = shape; kind = kind; offset = offset })) (now (out .entry)) (now (out .exit)) r ⌝ }
+    ensures { λ r. ⌜ Wrote (tensorBytes dialect (contentOf (now (name .entry)) shape kind offset)) (now (out .entry)) (now (out .exit)) r ⌝ }
 {
     let a = write_string(out, name, dialect);
     let b = a + write_shape(&mut out[a..], shape, dialect);
-    b + write_stored(&mut out[b..], kind, offset, dialect)
+    b + write_kind_and_offset(&mut out[b..], kind, offset, dialect)
 }
 
 // A tensor whose parts stand in the sheet, at the offset where it is laid.
@@ -381,7 +381,7 @@ fn write_laid_tensor(
 ) -> usize
     requires { ⌜ sizeWidth dialect + length (contents.insideOf (now s) (parts .name)) + output.shapeSize (parts .shape .dimensions) + 12 ≤ length (now out) ⌝ }
     ensures { λ r. ⌜ r ≡ sizeWidth dialect + length (contents.insideOf (now (s .entry)) (parts .name)) + output.shapeSize (parts .shape .dimensions) + 12 ⌝ }
-    ensures { λ r. ⌜ Wrote (tensorBytes dialect (record { name = contents.insideOf (now (s .entry)) (parts .name); shape = parts .shape; kind = parts .kind; offset = offset })) (now (out .entry)) (now (out .exit)) r ⌝ }
+    ensures { λ r. ⌜ Wrote (tensorBytes dialect (contentOf (contents.insideOf (now (s .entry)) (parts .name)) (parts .shape) (parts .kind) offset)) (now (out .entry)) (now (out .exit)) r ⌝ }
 {
     let name = parts.name;
     let shape = parts.shape;
@@ -406,8 +406,8 @@ fn write_tensor_info_section(
 ) -> usize
     requires { ⌜ isAccepted (run (times m format.tensor) (now s) first) ≡ true ⌝ }
     requires { ⌜ Fits ≡ plan_of.laidOf (layoutOf alignment (map header_of.pieceOf (got (run (times m format.tensor) (now s) first)))) ⌝ }
-    requires { ⌜ length (rows (tensorBytes dialect) (header_of.weightsFrom alignment nothingLaid (got (run (times m format.tensor) (now s) first)))) ≤ length (now out) ⌝ }
-    ensures { λ r. ⌜ Wrote (rows (tensorBytes dialect) (header_of.weightsFrom alignment nothingLaid (got (run (times m format.tensor) (now (s .entry)) first)))) (now (out .entry)) (now (out .exit)) r ⌝ }
+    requires { ⌜ length (bytesOfAll (tensorBytes dialect) (header_of.laidFrom alignment nothingLaid (got (run (times m format.tensor) (now s) first)))) ≤ length (now out) ⌝ }
+    ensures { λ r. ⌜ Wrote (bytesOfAll (tensorBytes dialect) (header_of.laidFrom alignment nothingLaid (got (run (times m format.tensor) (now (s .entry)) first)))) (now (out .entry)) (now (out .exit)) r ⌝ }
 {
     let mut from = first;
     let mut laid = Laid { total: 0, next: 0 };

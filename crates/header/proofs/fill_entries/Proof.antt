@@ -5,7 +5,7 @@ use native.Mathlib.Omega.{arith}
 use denote.Ref.{now}
 use Rattle.values.specs.Format.{entry}
 use Rattle.values.specs.Rows.{entryRow}
-use Rattle.header.proofs.Kept.{copied}
+use Rattle.header.proofs.KeptRows.{copied}
 use Rattle.header.proofs.fill_entries.Statement.{statement}
 use Rattle.header.proofs.fill_entries.Tie as tie
 

@@ -11,11 +11,11 @@ use lib.ListN.{length, length-set, take, drop}
 use denote.Ref.{now}
 use Rattle.reading.specs.Reading.{run, isAccepted}
 use Rattle.reading.specs.Each.{each, filled}
-use Rattle.reading.proofs.Turns.{each-accepted, each-filled, each-last}
+use Rattle.reading.proofs.Repetition.{each-accepted, each-filled, each-last}
 use Rattle.tensors.specs.Format.{tensor, totalOf}
 use Rattle.tensors.specs.Rows.{tensorRow}
 use Rattle.values.specs.declared.Dialect.{Dialect}
-use Rattle.tensors.specs.Steps.{rest}
+use Rattle.tensors.specs.Steps.{afterName}
 use Rattle.tensors.proofs.ReadAgain.{Found, name-ends, next-name, next-rest, found-again}
 use Rattle.header.proofs.fill_tensors.Statement.{statement}
 use Rattle.header.proofs.fill_tensors.Tie as tie
@@ -36,26 +36,26 @@ abbrev μ-loop : tie.MeasureT-loop
 loop-holds : tie.Need-loop-holds Inv-loop μ-loop
 loop-holds c = record { low = omega arith; long = refl; total = 0; all = rw sub-zero (c .before .pre .1); left = rw sub-zero }
 
-name-again-requires : tie.Need-name-again-requires Inv-loop μ-loop
+name-again-requires : tie.Need-known-name-requires Inv-loop μ-loop
 name-again-requires c κs = let v = c .before .loop in next-name _ _ _ _ _ (v .inv .total) (c .loop-test .taken) (v .inv .all)
 
 add-p : tie.Need-add-p Inv-loop μ-loop
-add-p c = omega (arith, name-ends _ _ _ (c .before .name-again .ensures))
+add-p c = omega (arith, name-ends _ _ _ (c .before .known-name .ensures))
 
 -- what follows the name is there
 rest-there : (c : tie.After-struct-known Inv-loop μ-loop) →
     let a = c .before .before .before .before .before .args in
-    let r = c .before .name-again .result in
-    isAccepted (run (rest (a .dialect .big)) (now (a .s)) (r .place + r .len)) ≡ true
+    let r = c .before .known-name .result in
+    isAccepted (run (afterName (a .dialect .big)) (now (a .s)) (r .place + r .len)) ≡ true
 rest-there c =
     let l = c .before .before in
     let v = l .before .loop in
-    next-rest _ _ _ _ _ (v .inv .total) (l .loop-test .taken) (v .inv .all) (c .before .name-again .ensures)
+    next-rest _ _ _ _ _ (v .inv .total) (l .loop-test .taken) (v .inv .all) (c .before .known-name .ensures)
 
-rest-again-requires : tie.Need-rest-again-requires Inv-loop μ-loop
+rest-again-requires : tie.Need-known-after-name-requires Inv-loop μ-loop
 rest-again-requires c κs = rw (c .if1 .taken) at (rest-there (c .before))
 
-rest-again-requires-2 : tie.Need-rest-again-requires-2 Inv-loop μ-loop
+rest-again-requires-2 : tie.Need-known-after-name-requires-2 Inv-loop μ-loop
 rest-again-requires-2 c κs = rw (c .if1 .left) at (rest-there (c .before))
 
 -- the tensor that was read, in either order
@@ -63,15 +63,15 @@ found : (c : tie.Joined1 Inv-loop μ-loop) →
     let r = c .before .before in
     let v = r .before .before .loop in
     let a = r .before .before .before .before .args in
-    Found (a .dialect) (now (a .s)) (v .from) (v .inv .total) (r .name-again .result) (c .if1 .found)
+    Found (a .dialect) (now (a .s)) (v .from) (v .inv .total) (r .known-name .result) (c .if1 .found)
 found c =
     let r = c .before .before in
     let l = r .before in
     let v = l .before .loop in
-    found-again _ _ _ _ _ (v .inv .total) (l .loop-test .taken) (v .inv .all) (r .name-again .ensures)
+    found-again _ _ _ _ _ (v .inv .total) (l .loop-test .taken) (v .inv .all) (r .known-name .ensures)
     (⊎-elim (λ w. rw (w .2, w .0 .taken) (w .1 .ensures)) (λ w. rw (w .2, w .0 .left) (w .1 .ensures)) (c .if1 .came))
 
-row-again-requires : tie.Need-row-again-requires Inv-loop μ-loop
+row-again-requires : tie.Need-known-row-requires Inv-loop μ-loop
 row-again-requires c κs = let f = found c in (f .known, (f .products, f .size))
 
 loop-again : tie.Need-loop-again Inv-loop μ-loop
@@ -86,7 +86,7 @@ loop-again c =
       long = simp length-set (v .inv .long);
       total = _;
       all = each-accepted (tensor (a .dialect)) totalOf _ _ _ _ (v .inv .total) h e (v .inv .all);
-      left = rw (c .row-again .ensures) (v .inv .left ∙ each-filled (tensor (a .dialect)) totalOf _ _ _ _ (v .inv .total) h e (v .inv .all) tensorRow _ (omega arith));
+      left = rw (c .known-row .ensures) (v .inv .left ∙ each-filled (tensor (a .dialect)) totalOf _ _ _ _ (v .inv .total) h e (v .inv .all) tensorRow _ (omega arith));
     }
 
 returns : tie.Need-returns Inv-loop μ-loop

@@ -10,7 +10,7 @@ use native.Mathlib.Nat.{sub-zero}
 use lib.ListN.{length, length-set, take, drop}
 use Rattle.reading.specs.Reading.{run, seen, isAccepted}
 use Rattle.reading.specs.Each.{times, fold, filled}
-use Rattle.reading.proofs.Turns.{times-ends, times-stops, times-seen, times-never, times-accepted, times-filled, times-last}
+use Rattle.reading.proofs.Repetition.{times-ends, times-stops, times-seen, times-never, times-accepted, times-filled, times-last}
 use Rattle.values.specs.Format.{entry}
 use Rattle.values.specs.Answers.{asEntry}
 use Rattle.values.specs.Rows.{entryRow}

@@ -7,7 +7,7 @@ use Rattle.reading.specs.Reading.{seen}
 use Rattle.fields.specs.Value.{asNumber}
 use Rattle.values.specs.Answers.{asPassed}
 use Rattle.start.specs.Answers.{asStart}
-use Rattle.header.proofs.Whole.{Started, Aligned, Ended, no-start, no-entries, no-tensors, all-told}
+use Rattle.header.proofs.Stages.{Started, Aligned, Ended, no-start, no-entries, no-tensors, all-told}
 use Rattle.header.proofs.measure.Statement.{statement}
 use Rattle.header.proofs.measure.Tie as tie
 
@@ -56,7 +56,7 @@ returns-4 : tie.Need-returns-4
 returns-4 c =
     let e = c .before .before in
     let d = e .before .before .before .before in
-    all-told _ _ _ _ (started (d .before .before .before .before .before)) (aligned d) (ended e) _ (c .told .ensures)
+    all-told _ _ _ _ (started (d .before .before .before .before .before)) (aligned d) (ended e) _ (c .header-if-it-fits .ensures)
 
 pub measure-spec : {M : Type 1} → statement M
 measure-spec =

@@ -7,7 +7,7 @@ use native.Mathlib.Omega.{arith}
 use native.Mathlib.Nat.{sub-zero}
 use Rattle.reading.specs.Reading.{run, seen}
 use Rattle.reading.specs.Each.{times, fold}
-use Rattle.reading.proofs.Turns.{times-ends, times-stops, times-seen}
+use Rattle.reading.proofs.Repetition.{times-ends, times-stops, times-seen}
 use Rattle.values.specs.Format.{entry}
 use Rattle.values.specs.Answers.{asEntry}
 use Rattle.header.specs.Format.{latest}

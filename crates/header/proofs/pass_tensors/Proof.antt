@@ -9,7 +9,7 @@ use denote.Ref.{now}
 use Rattle.reading.specs.Reading.{accepted, run, passed, seen}
 use Rattle.reading.specs.Each.{each}
 use Rattle.reading.specs.Ceilings.{under}
-use Rattle.reading.proofs.Turns.{each-ends, each-stops, each-passed}
+use Rattle.reading.proofs.Repetition.{each-ends, each-stops, each-passed}
 use Rattle.tensors.specs.Format.{tensor, totalOf}
 use Rattle.tensors.specs.Answers.{asTensor}
 use Rattle.tensors.proofs.Totals.{total-fits}

@@ -11,7 +11,7 @@ use Rattle.values.specs.Rows.{entryRow}
 use Rattle.tensors.specs.Rows.{tensorRow}
 use Rattle.start.specs.declared.Rooms.{Rooms}
 use Rattle.start.specs.Answers.{asStart}
-use Rattle.header.proofs.Whole.{Started, Aligned, Ended, Passed, no-start, no-entries, no-tensors, no-data, reached}
+use Rattle.header.proofs.Stages.{Started, Aligned, Ended, Passed, no-start, no-entries, no-tensors, no-data, reached}
 use Rattle.header.proofs.read.Statement.{statement}
 use Rattle.header.proofs.read.Tie as tie
 
@@ -53,7 +53,7 @@ known : (c : tie.After-header) →
 known c =
     let e = c .before .before .before .before in
     let d = e .before .before .before .before in
-    reached _ _ _ _ (started (d .before .before .before .before .before .before)) (aligned d) (ended e) (sym (c .header .given .1) ∙ c .before .before .told .ensures)
+    reached _ _ _ _ (started (d .before .before .before .before .before .before)) (aligned d) (ended e) (sym (c .header .given .1) ∙ c .before .before .header-if-it-fits .ensures)
 
 fill-requires : tie.Need-fill-requires
 fill-requires c κs =
@@ -66,28 +66,28 @@ returns : tie.Need-returns
 unfolding seen
 returns c =
     let r = ap asStart (sym (c .before .why .given .1)) ∙ c .before .before .before .read-start .ensures in
-    rw (no-start _ _ _ _ r) (refl, (refl, refl))
+    rw (no-start _ _ _ _ r) (record { answer = refl; entryRows = refl; tensorRows = refl })
 
 returns-2 : tie.Need-returns-2
 unfolding seen
 returns-2 c =
     let r = ap asNumber (sym (c .before .why2 .given .1)) ∙ c .before .before .before .before .test-entries .ensures .0 in
-    rw (no-entries _ _ _ _ (started (c .before .before .before .before .before .before .before)) r) (refl, (refl, refl))
+    rw (no-entries _ _ _ _ (started (c .before .before .before .before .before .before .before)) r) (record { answer = refl; entryRows = refl; tensorRows = refl })
 
 returns-3 : tie.Need-returns-3
 unfolding seen
 returns-3 c =
     let r = ap asPassed (sym (c .before .why3 .given .1)) ∙ c .before .before .before .pass-tensors .ensures in
     let d = c .before .before .before .before .before in
-    rw (no-tensors _ _ _ _ (started (d .before .before .before .before .before .before)) (aligned d) r) (refl, (refl, refl))
+    rw (no-tensors _ _ _ _ (started (d .before .before .before .before .before .before)) (aligned d) r) (record { answer = refl; entryRows = refl; tensorRows = refl })
 
 returns-4 : tie.Need-returns-4
 unfolding seen
 returns-4 c =
-    let r = sym (c .before .why4 .given .1) ∙ c .before .before .before .told .ensures in
+    let r = sym (c .before .why4 .given .1) ∙ c .before .before .before .header-if-it-fits .ensures in
     let e = c .before .before .before .before .before in
     let d = e .before .before .before .before in
-    rw (no-data _ _ _ _ (started (d .before .before .before .before .before .before)) (aligned d) (ended e) r) (refl, (refl, refl))
+    rw (no-data _ _ _ _ (started (d .before .before .before .before .before .before)) (aligned d) (ended e) r) (record { answer = refl; entryRows = refl; tensorRows = refl })
 
 returns-5 : tie.Need-returns-5
 unfolding seen
@@ -97,13 +97,11 @@ returns-5 c =
     let k = known t in
     let d = t .before .before .before .before .before .before .before .before in
     let z = d .before .before .before .before .before .before .before .before .before .before in
-    rw (k .all) (
-      refl,
-      (
-        f .fill .ensures .0 ∙ ap (filled entryRow (now (z .args .entries))) (sym (k .entries)),
-        f .fill .ensures .1 ∙ ap (filled tensorRow (now (z .args .tensors))) (sym (k .tensors)),
-      ),
-    )
+    rw (k .all) (record {
+      answer = refl;
+      entryRows = f .fill .ensures .0 ∙ ap (filled entryRow (now (z .args .entries))) (sym (k .entries));
+      tensorRows = f .fill .ensures .1 ∙ ap (filled tensorRow (now (z .args .tensors))) (sym (k .tensors));
+    })
 
 pub read-spec : {M : Type 1} → statement M
 read-spec =

@@ -6,7 +6,7 @@ use Rattle.reading.specs.Each.{times}
 use Rattle.reading.specs.Reading.{run}
 use Rattle.values.specs.Format.{entry}
 use Rattle.values.specs.Rows.{entryRow}
-use Rattle.header.proofs.Kept.{stands}
+use Rattle.header.proofs.KeptRows.{stands}
 use Rattle.header.proofs.test_entries.Statement.{statement}
 use Rattle.header.proofs.test_entries.Tie as tie
 

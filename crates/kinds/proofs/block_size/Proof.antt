@@ -3,7 +3,7 @@
 use mathlib.Core.Path.{ap}
 use native.Mathlib.Omega.{arith}
 use Rattle.kinds.specs.Table.{blockOf}
-use Rattle.kinds.proofs.Rows.{in-range, past}
+use Rattle.kinds.proofs.KindTable.{in-range, past}
 use Rattle.kinds.proofs.block_size.Statement.{statement}
 use Rattle.kinds.proofs.block_size.Tie as tie
 

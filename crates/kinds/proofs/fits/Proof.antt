@@ -6,7 +6,7 @@ use mathlib.Core.Path.{sym, _∙_}
 use Rattle.kinds.specs.Table.{blockOf}
 use Rattle.kinds.proofs.Measures.{many-fit, many-not}
 use Rattle.kinds.proofs.Products.{few-fit}
-use Rattle.kinds.proofs.Rows.{small-block}
+use Rattle.kinds.proofs.KindTable.{small-block}
 use Rattle.kinds.proofs.fits.Statement.{statement}
 use Rattle.kinds.proofs.fits.Tie as tie
 

@@ -4,7 +4,7 @@ use Prim.Native.Nat.{_*_}
 use mathlib.Core.Path.{_≡_, sym, _∙_}
 use lib.ListN.{getD}
 use borrow.Author.Needs.{needs}
-use Rattle.kinds.specs.declared.Whole.the-variants.{Fits}
+use Rattle.kinds.specs.declared.Bounded.the-variants.{Fits}
 use Rattle.kinds.proofs.Products.{fitted, Lengths, lengths, no-plane, no-solid, whole}
 use Rattle.kinds.proofs.product.Statement.{statement}
 use Rattle.kinds.proofs.product.Tie as tie

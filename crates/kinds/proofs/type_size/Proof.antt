@@ -3,7 +3,7 @@
 use Prim.Native.Nat.{ℕ}
 use mathlib.Core.List.{List, [], _∷_}
 use Rattle.kinds.specs.Table.{blockOf}
-use Rattle.kinds.proofs.Rows.{in-arm, left-over}
+use Rattle.kinds.proofs.KindTable.{in-arm, left-over}
 use Rattle.kinds.proofs.type_size.Statement.{statement}
 use Rattle.kinds.proofs.type_size.Tie as tie
 

@@ -8,7 +8,7 @@ use mathlib.Core.Bool.{true}
 use native.Mathlib.Omega.{arith}
 use Rattle.kinds.specs.Table.{writtenKind}
 use Rattle.kinds.specs.Shape.{greatest}
-use Rattle.kinds.proofs.Rows.{written-known}
+use Rattle.kinds.proofs.KindTable.{written-known}
 use Rattle.kinds.proofs.Answers.{Sized, sized, unsized}
 use Rattle.layout.proofs.Places.{not-written, not-sized, no-total, no-end, no-padding, placed}
 use Rattle.layout.proofs.place.Statement.{statement}

@@ -5,7 +5,7 @@ use mathlib.Core.Path.{_≡_, sym, _∙_}
 use native.Mathlib.Omega.{arith}
 use denote.Ref.{now}
 use lib.ListN.{length}
-use Rattle.reading.specs.Back.{rows}
+use Rattle.reading.specs.Back.{bytesOfAll}
 use Rattle.listing.specs.Order.{nextKey, orderedAfter, ordered}
 use Rattle.listing.specs.Text.{keyLine}
 use Rattle.listing.specs.declared.NextKey.the-variants.{At}
@@ -17,7 +17,7 @@ use Rattle.listing.proofs.put_keys.Tie as tie
 
 abbrev Inv-loop : tie.InvT-loop
 Inv-loop out₀ s entries n₀ last₀ left₀ out n last left =
-    (left ≤ length entries) × Writing (rows (keyLine s) (ordered s entries)) (rows (keyLine s) (orderedAfter s entries left last)) out₀ out n
+    (left ≤ length entries) × Writing (bytesOfAll (keyLine s) (ordered s entries)) (bytesOfAll (keyLine s) (orderedAfter s entries left last)) out₀ out n
 
 abbrev μ-loop : tie.MeasureT-loop
 μ-loop out₀ s entries n₀ last₀ left₀ out n last left = left

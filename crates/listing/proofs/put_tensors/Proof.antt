@@ -4,7 +4,7 @@ use Prim.Native.Nat.{_-_, _≤_}
 use native.Mathlib.Omega.{arith}
 use denote.Ref.{now}
 use lib.ListN.{length, drop}
-use Rattle.reading.specs.Back.{rows}
+use Rattle.reading.specs.Back.{bytesOfAll}
 use Rattle.listing.specs.Text.{tensorLine}
 use Rattle.listing.proofs.Put.{put-long}
 use Rattle.listing.proofs.Writing.{Writing, writing-starts, writing-turns, writing-ends, rows-turn, rows-end}
@@ -12,7 +12,7 @@ use Rattle.listing.proofs.put_tensors.Statement.{statement}
 use Rattle.listing.proofs.put_tensors.Tie as tie
 
 abbrev Inv-loop : tie.InvT-loop
-Inv-loop out₀ s tensors n₀ i₀ out n i = (i ≤ length tensors) × Writing (rows (tensorLine s) tensors) (rows (tensorLine s) (drop i tensors)) out₀ out n
+Inv-loop out₀ s tensors n₀ i₀ out n i = (i ≤ length tensors) × Writing (bytesOfAll (tensorLine s) tensors) (bytesOfAll (tensorLine s) (drop i tensors)) out₀ out n
 
 abbrev μ-loop : tie.MeasureT-loop
 μ-loop out₀ s tensors n₀ i₀ out n i = length tensors - i

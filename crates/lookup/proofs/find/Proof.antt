@@ -5,12 +5,12 @@ use mathlib.Core.Path.{_≡_, refl, sym, ap, _∙_}
 use denote.Ref.{now}
 use Rattle.reading.specs.Each.{times, fold}
 use Rattle.reading.specs.Reading.{accepted, run, isAccepted, seen}
-use Rattle.reading.proofs.Turns.{seen-refused}
+use Rattle.reading.proofs.Repetition.{seen-refused}
 use Rattle.values.specs.Format.{entry}
 use Rattle.header.specs.Answers.{asHeader}
 use Rattle.reading.specs.Ceilings.{full}
 use Rattle.header.specs.Contents.{dialectIn}
-use Rattle.header.proofs.Begins.{Again, again}
+use Rattle.header.proofs.EntriesAgain.{Again, again}
 use Rattle.lookup.specs.Questions.{enough, sought}
 use Rattle.lookup.specs.declared.Sought.the-variants.{Missing}
 use Rattle.lookup.proofs.find.Statement.{statement}

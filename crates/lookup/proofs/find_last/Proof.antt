@@ -9,13 +9,13 @@ use native.Mathlib.Nat.{sub-zero}
 use denote.Ref.{now}
 use Rattle.reading.specs.Reading.{accepted, run, seen}
 use Rattle.reading.specs.Each.{times, fold}
-use Rattle.reading.proofs.Turns.{times-ends, times-stops, times-seen}
+use Rattle.reading.proofs.Repetition.{times-ends, times-stops, times-seen}
 use Rattle.values.specs.Format.{entry}
 use Rattle.values.specs.Answers.{asEntry}
 use Rattle.lookup.specs.Questions.{sought}
 use Rattle.lookup.specs.declared.Sought.the-variants.{Missing}
-use Rattle.lookup.proofs.Keys.{key-inside}
-use Rattle.lookup.proofs.Last.{folded, never}
+use Rattle.lookup.proofs.KeyCompared.{key-inside}
+use Rattle.lookup.proofs.LastEntry.{folded, never}
 use Rattle.lookup.proofs.find_last.Statement.{statement}
 use Rattle.lookup.proofs.find_last.Tie as tie
 

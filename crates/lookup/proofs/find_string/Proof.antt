@@ -4,7 +4,7 @@ use Rattle.lookup.proofs.find_string.Statement.{statement}
 use Rattle.lookup.proofs.find_string.Tie as tie
 
 returns : tie.Need-returns
-returns c = (rw (c .string-of .ensures, c .before .before .find .ensures), rw (c .before .string-told .ensures, c .before .before .find .ensures))
+returns c = (rw (c .string-of .ensures, c .before .before .find .ensures), rw (c .before .string-status .ensures, c .before .before .find .ensures))
 
 pub find-string-spec : {M : Type 1} → statement M
 find-string-spec =

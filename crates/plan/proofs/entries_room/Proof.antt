@@ -9,7 +9,7 @@ use Rattle.reading.specs.Each.{times}
 use Rattle.sheet.specs.Format.{metadata}
 use Rattle.sheet.specs.Sheet.{stepOf}
 use Rattle.plan.specs.Steps.{takenFrom}
-use Rattle.plan.proofs.Turns.{entriesLength, entry-here, entry-rest, entry-value, entry-taken, entries-ends}
+use Rattle.plan.proofs.PlanTurns.{entriesLength, entry-here, entry-rest, entry-value, entry-taken, entries-ends}
 use Rattle.plan.proofs.entries_room.Statement.{statement}
 use Rattle.plan.proofs.entries_room.Tie as tie
 
@@ -25,11 +25,11 @@ abbrev μ-loop : tie.MeasureT-loop
 loop-holds : tie.Need-loop-holds Inv-loop μ-loop
 loop-holds c = (omega arith, rw sub-zero (c .before .pre), rw sub-zero)
 
-entry-again-requires : tie.Need-entry-again-requires Inv-loop μ-loop
+entry-again-requires : tie.Need-known-entry-requires Inv-loop μ-loop
 entry-again-requires c κs = entry-here _ _ _ _ (c .loop-test .taken) (c .before .loop .inv .1)
 
 entry-room-requires : tie.Need-entry-room-requires Inv-loop μ-loop
-entry-room-requires c κs = ap stepOf (entry-value _ _ _ _ (c .before .loop-test .taken) (c .before .before .loop .inv .1) (c .entry-again .ensures))
+entry-room-requires c κs = ap stepOf (entry-value _ _ _ _ (c .before .loop-test .taken) (c .before .before .loop .inv .1) (c .known-entry .ensures))
 
 loop-again : tie.Need-loop-again Inv-loop μ-loop
 loop-again c =
@@ -37,7 +37,7 @@ loop-again c =
     let v = t .before .before .loop in
     let a = t .before .before .before .before .args in
     let below = t .before .loop-test .taken in
-    let found = t .entry-again .ensures in (
+    let found = t .known-entry .ensures in (
       omega arith,
       entry-rest _ _ _ _ below (v .inv .1) found,
       rw (c .entry-room .ensures) (v .inv .2 ∙ entry-taken _ _ _ _ below (v .inv .1) found (a .dialect) (v .left)),

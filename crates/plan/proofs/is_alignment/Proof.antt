@@ -1,4 +1,4 @@
--- `plan::is_alignment` meets its contract: another length is another text, and 17 bytes are all of this one. Assumes nothing.
+-- `plan::is_alignment_key` meets its contract: another length is another text, and 17 bytes are all of this one. Assumes nothing.
 use borrow.Author.Needs.{needs}
 use borrow.Author.Tests.{eq-eqb, ne-eqb}
 use Rattle.plan.proofs.is_alignment.Statement.{statement}

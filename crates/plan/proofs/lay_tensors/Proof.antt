@@ -16,7 +16,7 @@ use Rattle.sheet.specs.Sheet.{tensorOf}
 use Rattle.sheet.specs.declared.TensorFound.the-variants.{Found}
 use Rattle.plan.specs.Header.{pieceOf}
 use Rattle.plan.specs.Plan.{laidOf}
-use Rattle.plan.proofs.Turns.{tensor-never, tensor-rest, laid-stops, laid-goes-on, laid-ends}
+use Rattle.plan.proofs.PlanTurns.{tensor-never, tensor-rest, laid-stops, laid-goes-on, laid-ends}
 use Rattle.plan.proofs.lay_tensors.Statement.{statement}
 use Rattle.plan.proofs.lay_tensors.Tie as tie
 

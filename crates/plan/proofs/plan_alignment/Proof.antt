@@ -5,17 +5,17 @@ use mathlib.Core.Bool.{true}
 use denote.Ref.{now}
 use Rattle.sheet.specs.Sheet.{sheetOf}
 use Rattle.plan.specs.declared.Draft.{Draft}
-use Rattle.plan.specs.Header.{saidIn, recordsIn}
+use Rattle.plan.specs.Header.{ownAlignment, recordsIn}
 use Rattle.plan.proofs.Drafts.{entries-there, entries-got}
 use Rattle.plan.proofs.Tests.{aligned-none, aligned-not, other-said, same-said, said-default, cannot-add, can-add, drafted, said-adds, default-adds, other-adds}
 use Rattle.plan.proofs.plan_alignment.Statement.{statement}
 use Rattle.plan.proofs.plan_alignment.Tie as tie
 
 -- what the sheet says
-says : (c : tie.After-said-alignment) → c .said-alignment .result ≡ saidIn (recordsIn (sheetOf (now (c .before .before .before .before .args .s))) .entries)
+says : (c : tie.After-said-alignment) → c .own-alignment .result ≡ ownAlignment (recordsIn (sheetOf (now (c .before .before .before .before .args .s))) .entries)
 says c =
     let t = c .before .before .before .before in
-    c .said-alignment .ensures ∙ ap saidIn (entries-got (now (t .args .s)) (t .pre .0) (t .pre .1))
+    c .own-alignment .ensures ∙ ap ownAlignment (entries-got (now (t .args .s)) (t .pre .0) (t .pre .1))
 
 returns : tie.Need-returns
 returns c =
@@ -27,7 +27,7 @@ returns-2 c =
     let a = c .before .before .before .args in
     aligned-not (a .dialect) (a .alignment) (a .room) (recordsIn (sheetOf (now (a .s)))) (c .before .if1 .left) (c .if2 .taken)
 
-said-alignment-requires : tie.Need-said-alignment-requires
+said-alignment-requires : tie.Need-own-alignment-requires
 said-alignment-requires c κs = entries-there _ (c .before .before .before .pre .0) (c .before .before .before .pre .1)
 
 returns-3 : tie.Need-returns-3
@@ -35,7 +35,7 @@ returns-3 c =
     let t = c .before .before in
     let y = t .before .before in
     let a = c .before .before .before .before .before .before .before .before .args in
-    other-said (a .dialect) (a .alignment) (a .room) (recordsIn (sheetOf (now (a .s)))) (y .before .before .if1 .left) (y .before .if2 .left) (sym (t .said .given .1) ∙ says y) (c .if3 .taken)
+    other-said (a .dialect) (a .alignment) (a .room) (recordsIn (sheetOf (now (a .s)))) (y .before .before .if1 .left) (y .before .if2 .left) (sym (t .value .given .1) ∙ says y) (c .if3 .taken)
 
 plan-tensors-requires : tie.Need-plan-tensors-requires
 plan-tensors-requires c κs =
@@ -43,7 +43,7 @@ plan-tensors-requires c κs =
     let y = t .before .before in
     let z = c .before .before .before .before .before .before .before .before in
     let a = z .args in
-    (z .pre .0, drafted (a .dialect) (a .alignment) (a .room) (recordsIn (sheetOf (now (a .s)))) (z .pre .1) (said-adds (a .dialect) (a .alignment) (a .room) (recordsIn (sheetOf (now (a .s)))) (sym (t .said .given .1) ∙ says y)))
+    (z .pre .0, drafted (a .dialect) (a .alignment) (a .room) (recordsIn (sheetOf (now (a .s)))) (z .pre .1) (said-adds (a .dialect) (a .alignment) (a .room) (recordsIn (sheetOf (now (a .s)))) (sym (t .value .given .1) ∙ says y)))
 
 plan-tensors-requires-2 : tie.Need-plan-tensors-requires-2
 plan-tensors-requires-2 c κs =
@@ -83,7 +83,7 @@ returns-6 c =
     let t = c .before .before .before in
     let y = t .before .before in
     let a = c .before .before .before .before .before .before .before .before .before .args in
-    c .plan-tensors .ensures ∙ same-said (a .dialect) (a .alignment) (a .room) (recordsIn (sheetOf (now (a .s)))) (y .before .before .if1 .left) (y .before .if2 .left) (sym (t .said .given .1) ∙ says y) (c .before .if3 .left)
+    c .plan-tensors .ensures ∙ same-said (a .dialect) (a .alignment) (a .room) (recordsIn (sheetOf (now (a .s)))) (y .before .before .if1 .left) (y .before .if2 .left) (sym (t .value .given .1) ∙ says y) (c .before .if3 .left)
 
 returns-7 : tie.Need-returns-7
 returns-7 c =

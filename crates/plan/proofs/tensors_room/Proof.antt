@@ -12,7 +12,7 @@ use Rattle.sheet.specs.Format.{tensor}
 use Rattle.sheet.specs.Sheet.{tensorOf}
 use Rattle.sheet.specs.declared.TensorFound.the-variants.{Found}
 use Rattle.plan.specs.Steps.{takenFrom}
-use Rattle.plan.proofs.Turns.{tensorsLength, tensors-told, tensor-never, tensor-rest, tensor-few, tensor-taken, tensors-ends}
+use Rattle.plan.proofs.PlanTurns.{tensorsLength, tensors-told, tensor-never, tensor-rest, tensor-few, tensor-taken, tensors-ends}
 use Rattle.plan.proofs.tensors_room.Statement.{statement}
 use Rattle.plan.proofs.tensors_room.Tie as tie
 

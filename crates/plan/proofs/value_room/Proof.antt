@@ -2,7 +2,7 @@
 use borrow.Author.Needs.{needs}
 use mathlib.Core.Path.{ap, _∙_}
 use Rattle.sheet.specs.Sheet.{stepOf}
-use Rattle.sheet.proofs.Parts.{onward}
+use Rattle.sheet.proofs.PartsFound.{onward}
 use Rattle.sheet.proofs.Steps.{step-yes}
 use Rattle.plan.specs.Steps.{takenFrom}
 use Rattle.plan.proofs.Rooms.{taken-twice}

@@ -8,7 +8,7 @@ use borrow.Author.Needs.{needs}
 use borrow.Author.Tests.{not-true, not-false}
 use lib.ListN.{length, drop}
 use Rattle.ranges.specs.Ranges.{checkFrom}
-use Rattle.ranges.proofs.Turns.{at-end, goes-on, stops}
+use Rattle.ranges.proofs.RangeTurns.{at-end, goes-on, stops}
 use Rattle.ranges.proofs.check_ranges.Statement.{statement}
 use Rattle.ranges.proofs.check_ranges.Tie as tie
 

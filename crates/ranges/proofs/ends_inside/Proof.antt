@@ -4,7 +4,7 @@ use Prim.Native.Nat.{_+_, _-_, _<_}
 use mathlib.Core.Path.{sym}
 use native.Mathlib.Omega.{arith}
 use borrow.Author.Tests.{lt-leb}
-use Rattle.ranges.proofs.Turns.{alike}
+use Rattle.ranges.proofs.RangeTurns.{alike}
 use Rattle.ranges.proofs.ends_inside.Statement.{statement}
 use Rattle.ranges.proofs.ends_inside.Tie as tie
 

@@ -1,4 +1,4 @@
--- `records::read_scalar` meets its contract: it reads the number of the width that `scalar_width` gives, which is some.
+-- `scalars::read_scalar` meets its contract: it reads the number of the width that `scalar_width` gives, which is some.
 -- Assumes nothing.
 use borrow.Author.Needs.{needs}
 use mathlib.Core.Path.{sym, ap, _∙_}

@@ -1,4 +1,4 @@
--- `records::scalar_of` meets its contract: each arm makes the variant that the definition makes at that type, and a signed one by its `signed`.
+-- `scalars::scalar_of` meets its contract: each arm makes the variant that the definition makes at that type, and a signed one by its `signed`.
 -- Assumes nothing.
 use borrow.Author.Needs.{needs}
 use native.Mathlib.Nat.{mod-eq-of-lt}

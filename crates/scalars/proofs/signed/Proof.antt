@@ -1,4 +1,4 @@
--- `records::signed` meets its contract: below half the bits are the number, and from half on -1 less the rest of them is.
+-- `scalars::signed` meets its contract: below half the bits are the number, and from half on -1 less the rest of them is.
 -- Assumes nothing.
 use borrow.Author.Needs.{needs}
 use Prim.Native.Nat.{ℕ, _-_, _<_, _^_}

@@ -1,4 +1,4 @@
--- `records::signed16` meets its contract: what `signed` answers for the low 16 bits fits 16 bits, and so is the same there.
+-- `scalars::signed16` meets its contract: what `signed` answers for the low 16 bits fits 16 bits, and so is the same there.
 -- Assumes nothing.
 use borrow.Author.Needs.{needs}
 use native.Mathlib.Omega.{arith}

@@ -9,7 +9,7 @@ use native.Mathlib.Omega.{arith}
 use denote.Ref.{now}
 use Rattle.reading.specs.Reading.{accepted, run, here, andThen}
 use Rattle.fields.specs.Value.{asNumber, number}
-use Rattle.reading.proofs.Laws.{run-bind}
+use Rattle.reading.proofs.RunLaws.{run-bind}
 use Rattle.fields.proofs.NumberFields.{number-within}
 use Rattle.sheet.specs.Format.{opening}
 use Rattle.sheet.proofs.body_at.Statement.{statement}

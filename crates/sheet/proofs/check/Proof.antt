@@ -8,7 +8,7 @@ use lib.ListN.{List·getD-eq-default, length}
 use denote.Ref.{now}
 use Rattle.reading.specs.Reading.{andThen}
 use Rattle.sheet.specs.Sheet.{entriesFrom, tensorsFrom, sheetOf}
-use Rattle.sheet.specs.declared.Checked.the-variants.{Whole}
+use Rattle.sheet.specs.declared.Checked.the-variants.{WellFormed}
 use Rattle.sheet.proofs.Steps.{Shows, count-no, count-yes}
 use Rattle.sheet.proofs.check.Statement.{statement}
 use Rattle.sheet.proofs.check.Tie as tie
@@ -59,7 +59,7 @@ returns-5 c =
     let q = e .entries .given .0 .1 .0 in
     let r = count-yes (tensorsFrom s q) (sym (t .tensors .given .1) ∙ u .check-tensors .ensures) in
     rw (eq-eqb _ _ (e .before .before .before .if2 .left), ← entered e .is, ← r .is)
-    (ap (λ n. Whole n (t .tensors .given .0 .0) q) (entered e .told) ∙ ap (λ n. Whole (length (entered e .what)) n q) (r .told))
+    (ap (λ n. WellFormed n (t .tensors .given .0 .0) q) (entered e .told) ∙ ap (λ n. WellFormed (length (entered e .what)) n q) (r .told))
 
 pub check-spec : {M : Type 1} → statement M
 check-spec =

@@ -9,10 +9,10 @@ use lib.ListN.{length}
 use denote.Ref.{now}
 use Rattle.reading.specs.Reading.{run}
 use Rattle.values.specs.Contents.{insideOf}
-use Rattle.sheet.specs.Format.{Line}
+use Rattle.sheet.specs.Format.{SheetEntry}
 use Rattle.sheet.specs.Sheet.{asMany, isMetadata, next, keyOf, lastKey, noKey, lastIn, entriesFrom, countOf}
 use Rattle.sheet.specs.declared.EntryParts.{EntryParts}
-use Rattle.sheet.proofs.Many.{added, many-starts, many-ends, many-stops, many-more, tag-inside, next-told}
+use Rattle.sheet.proofs.ManyEntries.{added, many-starts, many-ends, many-stops, many-more, tag-inside, next-told}
 use Rattle.sheet.proofs.Steps.{Shows, entry-no, entry-yes}
 use Rattle.sheet.proofs.check_entries.Statement.{statement}
 use Rattle.sheet.proofs.check_entries.Tie as tie
@@ -46,7 +46,7 @@ found : (c : tie.After-parts Inv-loop μ-loop) →
     let t = c .before .before .before in
     let l = t .before .before .loop in
     let s = now (t .before .before .before .before .args .s) in
-    Shows (λ (e : Line). e .parts) (c .parts .given .0 .0) (c .parts .given .0 .1 .0) (run (next (lastIn s (l .last))) s (l .from))
+    Shows (λ (e : SheetEntry). e .parts) (c .parts .given .0 .0) (c .parts .given .0 .1 .0) (run (next (lastIn s (l .last))) s (l .from))
 found c =
     let t = c .before .before .before in
     let l = t .before .before .loop in
@@ -86,7 +86,7 @@ loop-again c =
     let i = tag-inside s (l .from) (tagged t) in
     let j = farther x in
     let r = found x in
-    let key : lastKey (insideOf s (x .parts .given .0 .0 .key)) ≡ lastKey (r .what .entered .key) =
+    let key : lastKey (insideOf s (x .parts .given .0 .0 .key)) ≡ lastKey (r .what .content .key) =
     ap (λ (y : EntryParts). lastKey (insideOf s (y .key))) (r .told) ∙ ap lastKey (next-told s (lastIn s (l .last)) (l .from) (r .is) .1) in (
       omega arith,
       l .inv .1

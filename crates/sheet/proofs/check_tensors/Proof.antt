@@ -8,10 +8,10 @@ use native.Mathlib.Omega.{arith}
 use lib.ListN.{length}
 use denote.Ref.{now}
 use Rattle.reading.specs.Reading.{run}
-use Rattle.sheet.specs.Format.{Drawn, tensor}
+use Rattle.sheet.specs.Format.{SheetTensor, tensor}
 use Rattle.sheet.specs.Sheet.{asMany, goesOn, tensorsFrom, countOf}
-use Rattle.sheet.proofs.Many.{added, many-starts, many-ends, many-stops, many-more}
-use Rattle.sheet.proofs.Parts.{tensor-ends}
+use Rattle.sheet.proofs.ManyEntries.{added, many-starts, many-ends, many-stops, many-more}
+use Rattle.sheet.proofs.PartsFound.{tensor-ends}
 use Rattle.sheet.proofs.Steps.{Shows, tensor-no, tensor-yes}
 use Rattle.sheet.proofs.check_tensors.Statement.{statement}
 use Rattle.sheet.proofs.check_tensors.Tie as tie
@@ -43,7 +43,7 @@ found : (c : tie.After-next Inv-loop μ-loop) →
     let t = c .before .before .before in
     let l = t .before .loop in
     let s = now (t .before .before .before .args .s) in
-    Shows (λ (d : Drawn). d .parts) (c .next .given .0 .0) (c .next .given .0 .1 .0) (run tensor s (l .from))
+    Shows (λ (d : SheetTensor). d .parts) (c .next .given .0 .0) (c .next .given .0 .1 .0) (run tensor s (l .from))
 found c =
     let t = c .before .before .before in
     let l = t .before .loop in

@@ -5,7 +5,7 @@ use lib.ListN.{length}
 use mathlib.Core.Path.{_≡_, refl, sym, ap, _∙_}
 use denote.Ref.{now}
 use Rattle.reading.specs.Reading.{accepted, run}
-use Rattle.sheet.specs.Format.{opening, keyed, metadata}
+use Rattle.sheet.specs.Format.{opening, entryBody, metadata}
 use Rattle.sheet.specs.declared.EntryFound.the-variants.{Found}
 use Rattle.sheet.proofs.Frames.{framed-run, unopened, opened}
 use Rattle.sheet.proofs.Steps.{entry-no, entry-yes}
@@ -27,7 +27,7 @@ returns : tie.Need-returns
 unfolding metadata
 returns c =
     let a = c .before .before .before .before .args in
-    let r = unopened (now (a .s)) 1 (a .at) keyed (sym (c .enum-told .given .1) ∙ c .before .before .body-at .ensures) in
+    let r = unopened (now (a .s)) 1 (a .at) entryBody (sym (c .enum-told .given .1) ∙ c .before .before .body-at .ensures) in
     rw (← r .is) refl
 
 returns-2 : tie.Need-returns-2
@@ -36,8 +36,8 @@ returns-2 c =
     let u = c .before .before in
     let f = u .before .before in
     let a = f .before .before .before .before .args in
-    let r = entry-no (run (keyed (f .from .given .0 .1 .0)) (now (a .s)) (f .from .given .0 .0)) (sym (c .enum-told2 .given .1) ∙ u .keyed-at .ensures) in
-    rw (framed-run _ _ _ keyed (starts f), ← r .is) refl
+    let r = entry-no (run (entryBody (f .from .given .0 .1 .0)) (now (a .s)) (f .from .given .0 .0)) (sym (c .enum-told2 .given .1) ∙ u .entry-body-at .ensures) in
+    rw (framed-run _ _ _ entryBody (starts f), ← r .is) refl
 
 returns-3 : tie.Need-returns-3
 unfolding metadata
@@ -46,8 +46,8 @@ returns-3 c =
     let u = x .before .before in
     let f = u .before .before in
     let a = f .before .before .before .before .args in
-    let r = entry-yes (run (keyed (f .from .given .0 .1 .0)) (now (a .s)) (f .from .given .0 .0)) (sym (x .parts .given .1) ∙ u .keyed-at .ensures) in
-    rw (framed-run _ _ _ keyed (starts f), ← r .is, eq-eqb _ _ (c .if1 .taken)) (ap (λ y. Found y (x .parts .given .0 .1 .0)) (r .told))
+    let r = entry-yes (run (entryBody (f .from .given .0 .1 .0)) (now (a .s)) (f .from .given .0 .0)) (sym (x .parts .given .1) ∙ u .entry-body-at .ensures) in
+    rw (framed-run _ _ _ entryBody (starts f), ← r .is, eq-eqb _ _ (c .if1 .taken)) (ap (λ y. Found y (x .parts .given .0 .1 .0)) (r .told))
 
 returns-4 : tie.Need-returns-4
 unfolding metadata
@@ -56,8 +56,8 @@ returns-4 c =
     let u = x .before .before in
     let f = u .before .before in
     let a = f .before .before .before .before .args in
-    let r = entry-yes (run (keyed (f .from .given .0 .1 .0)) (now (a .s)) (f .from .given .0 .0)) (sym (x .parts .given .1) ∙ u .keyed-at .ensures) in
-    rw (framed-run _ _ _ keyed (starts f), ← r .is, ne-eqb _ _ (c .if1 .left)) refl
+    let r = entry-yes (run (entryBody (f .from .given .0 .1 .0)) (now (a .s)) (f .from .given .0 .0)) (sym (x .parts .given .1) ∙ u .entry-body-at .ensures) in
+    rw (framed-run _ _ _ entryBody (starts f), ← r .is, ne-eqb _ _ (c .if1 .left)) refl
 
 pub entry-at-spec : {M : Type 1} → statement M
 entry-at-spec =

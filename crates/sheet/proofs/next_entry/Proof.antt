@@ -3,13 +3,13 @@ use borrow.Author.Needs.{needs}
 use mathlib.Core.Path.{_≡_, refl, sym, ap, _∙_}
 use denote.Ref.{now}
 use Rattle.reading.specs.Reading.{run, andThen}
-use Rattle.reading.proofs.Laws.{run-bind}
+use Rattle.reading.proofs.RunLaws.{run-bind}
 use Rattle.values.specs.Contents.{insideOf}
-use Rattle.sheet.specs.Format.{Line, metadata}
+use Rattle.sheet.specs.Format.{SheetEntry, metadata}
 use Rattle.sheet.specs.Sheet.{follows, lastIn, next}
 use Rattle.sheet.specs.declared.EntryParts.{EntryParts}
 use Rattle.sheet.specs.declared.EntryFound.the-variants.{Found}
-use Rattle.sheet.proofs.Many.{key-stands}
+use Rattle.sheet.proofs.ManyEntries.{key-stands}
 use Rattle.sheet.proofs.Steps.{Shows, entry-no, entry-yes}
 use Rattle.sheet.proofs.next_entry.Statement.{statement}
 use Rattle.sheet.proofs.next_entry.Tie as tie
@@ -17,13 +17,13 @@ use Rattle.sheet.proofs.next_entry.Tie as tie
 -- the entry that was read
 found : (c : tie.After-parts) →
     let a = c .before .before .before .before .args in
-    Shows (λ (l : Line). l .parts) (c .parts .given .0 .0) (c .parts .given .0 .1 .0) (run metadata (now (a .s)) (a .at))
+    Shows (λ (l : SheetEntry). l .parts) (c .parts .given .0 .0) (c .parts .given .0 .1 .0) (run metadata (now (a .s)) (a .at))
 found c =
     let a = c .before .before .before .before .args in
     entry-yes (run metadata (now (a .s)) (a .at)) (sym (c .parts .given .1) ∙ c .before .before .entry-at .ensures)
 
 -- its key
-key-told : (c : tie.After-parts) → insideOf (now (c .before .before .before .before .args .s)) (c .parts .given .0 .0 .key) ≡ found c .what .entered .key
+key-told : (c : tie.After-parts) → insideOf (now (c .before .before .before .before .args .s)) (c .parts .given .0 .0 .key) ≡ found c .what .content .key
 key-told c =
     let a = c .before .before .before .before .args in
     ap (λ (x : EntryParts). insideOf (now (a .s)) (x .key)) (found c .told) ∙ key-stands (now (a .s)) (a .at) (found c .is)

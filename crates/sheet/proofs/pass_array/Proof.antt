@@ -7,8 +7,8 @@ use denote.Ref.{now}
 use Rattle.reading.specs.Reading.{accepted, run, andThen}
 use Rattle.reading.specs.Each.{times}
 use Rattle.fields.specs.Value.{asNumber, number}
-use Rattle.reading.proofs.Laws.{run-bind}
-use Rattle.values.specs.Contents.{list}
+use Rattle.reading.proofs.RunLaws.{run-bind}
+use Rattle.values.specs.Contents.{anArray}
 use Rattle.values.specs.Format.{depth}
 use Rattle.sheet.specs.Format.{array, item}
 use Rattle.sheet.proofs.Steps.{step-then}
@@ -55,7 +55,7 @@ returns-5 c =
     let a = t .before .before .before .before .args in
     let r = ap asNumber (sym (n .n .given .1)) ∙ u .number-at2 .ensures in
     rw (run-bind, ← typed t, run-bind, ne-eqb _ _ (u .before .before .if1 .left), le-leb _ _ (u .before .if2 .left), run-bind, ← r, run-bind)
-    (c .pass-items .ensures ∙ sym (step-then (list (t .item .given .0 .0)) (run (times (n .n .given .0 .0) (item depth (t .item .given .0 .0))) (now (a .s)) (n .n .given .0 .1 .0))))
+    (c .pass-items .ensures ∙ sym (step-then (anArray (t .item .given .0 .0)) (run (times (n .n .given .0 .0) (item depth (t .item .given .0 .0))) (now (a .s)) (n .n .given .0 .1 .0))))
 
 pub pass-array-spec : {M : Type 1} → statement M
 pass-array-spec =

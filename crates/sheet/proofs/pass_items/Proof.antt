@@ -7,7 +7,7 @@ use native.Mathlib.Nat.{sub-zero}
 use denote.Ref.{now}
 use Rattle.reading.specs.Reading.{run}
 use Rattle.reading.specs.Each.{times}
-use Rattle.reading.proofs.Turns.{times-ends}
+use Rattle.reading.proofs.Repetition.{times-ends}
 use Rattle.values.specs.Format.{depth}
 use Rattle.sheet.specs.Format.{item}
 use Rattle.sheet.specs.Sheet.{stepOf}

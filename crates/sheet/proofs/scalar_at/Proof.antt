@@ -4,7 +4,7 @@ use borrow.Author.Tests.{le-leb, lt-leb, eq-eqb, ne-eqb}
 use mathlib.Core.Path.{refl, sym, ap, _∙_}
 use Rattle.reading.specs.Reading.{run, andThen}
 use Rattle.fields.specs.Value.{asNumber}
-use Rattle.reading.proofs.Laws.{run-bind}
+use Rattle.reading.proofs.RunLaws.{run-bind}
 use Rattle.sheet.specs.Format.{scalar}
 use Rattle.sheet.proofs.scalar_at.Statement.{statement}
 use Rattle.sheet.proofs.scalar_at.Tie as tie

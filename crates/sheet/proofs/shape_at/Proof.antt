@@ -6,7 +6,7 @@ use mathlib.Core.Path.{_≡_, refl, sym, ap, _∙_}
 use denote.Ref.{now}
 use Rattle.reading.specs.Reading.{accepted, run, andThen}
 use Rattle.fields.specs.Value.{asNumber, number}
-use Rattle.reading.proofs.Laws.{run-bind}
+use Rattle.reading.proofs.RunLaws.{run-bind}
 use Rattle.tensors.specs.Answers.{asShape}
 use Rattle.sheet.specs.Format.{shape}
 use Rattle.sheet.proofs.shape_at.Statement.{statement}

@@ -5,7 +5,7 @@ use lib.ListN.{length}
 use mathlib.Core.Path.{_≡_, refl, sym, ap, _∙_}
 use denote.Ref.{now}
 use Rattle.reading.specs.Reading.{accepted, run}
-use Rattle.sheet.specs.Format.{opening, drawn, tensor}
+use Rattle.sheet.specs.Format.{opening, tensorBody, tensor}
 use Rattle.sheet.specs.declared.TensorFound.the-variants.{Found}
 use Rattle.sheet.proofs.Frames.{framed-run, unopened, opened}
 use Rattle.sheet.proofs.Steps.{tensor-no, tensor-yes}
@@ -27,7 +27,7 @@ returns : tie.Need-returns
 unfolding tensor
 returns c =
     let a = c .before .before .before .before .args in
-    let r = unopened (now (a .s)) 2 (a .at) (λ e. drawn) (sym (c .enum-told .given .1) ∙ c .before .before .body-at .ensures) in
+    let r = unopened (now (a .s)) 2 (a .at) (λ e. tensorBody) (sym (c .enum-told .given .1) ∙ c .before .before .body-at .ensures) in
     rw (← r .is) refl
 
 returns-2 : tie.Need-returns-2
@@ -36,8 +36,8 @@ returns-2 c =
     let u = c .before .before in
     let f = u .before .before in
     let a = f .before .before .before .before .args in
-    let r = tensor-no (run drawn (now (a .s)) (f .from .given .0 .0)) (sym (c .enum-told2 .given .1) ∙ u .drawn-at .ensures) in
-    rw (framed-run _ _ _ (λ e. drawn) (starts f), ← r .is) refl
+    let r = tensor-no (run tensorBody (now (a .s)) (f .from .given .0 .0)) (sym (c .enum-told2 .given .1) ∙ u .tensor-body-at .ensures) in
+    rw (framed-run _ _ _ (λ e. tensorBody) (starts f), ← r .is) refl
 
 returns-3 : tie.Need-returns-3
 unfolding tensor
@@ -46,8 +46,8 @@ returns-3 c =
     let u = x .before .before in
     let f = u .before .before in
     let a = f .before .before .before .before .args in
-    let r = tensor-yes (run drawn (now (a .s)) (f .from .given .0 .0)) (sym (x .parts .given .1) ∙ u .drawn-at .ensures) in
-    rw (framed-run _ _ _ (λ e. drawn) (starts f), ← r .is, eq-eqb _ _ (c .if1 .taken)) (ap (λ y. Found y (x .parts .given .0 .1 .0)) (r .told))
+    let r = tensor-yes (run tensorBody (now (a .s)) (f .from .given .0 .0)) (sym (x .parts .given .1) ∙ u .tensor-body-at .ensures) in
+    rw (framed-run _ _ _ (λ e. tensorBody) (starts f), ← r .is, eq-eqb _ _ (c .if1 .taken)) (ap (λ y. Found y (x .parts .given .0 .1 .0)) (r .told))
 
 returns-4 : tie.Need-returns-4
 unfolding tensor
@@ -56,8 +56,8 @@ returns-4 c =
     let u = x .before .before in
     let f = u .before .before in
     let a = f .before .before .before .before .args in
-    let r = tensor-yes (run drawn (now (a .s)) (f .from .given .0 .0)) (sym (x .parts .given .1) ∙ u .drawn-at .ensures) in
-    rw (framed-run _ _ _ (λ e. drawn) (starts f), ← r .is, ne-eqb _ _ (c .if1 .left)) refl
+    let r = tensor-yes (run tensorBody (now (a .s)) (f .from .given .0 .0)) (sym (x .parts .given .1) ∙ u .tensor-body-at .ensures) in
+    rw (framed-run _ _ _ (λ e. tensorBody) (starts f), ← r .is, ne-eqb _ _ (c .if1 .left)) refl
 
 pub tensor-at-spec : {M : Type 1} → statement M
 tensor-at-spec =

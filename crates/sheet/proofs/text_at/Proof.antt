@@ -3,7 +3,7 @@ use borrow.Author.Needs.{needs}
 use mathlib.Core.Path.{refl, sym, ap, _∙_}
 use Rattle.reading.specs.Reading.{andThen}
 use Rattle.fields.specs.Value.{asNumber}
-use Rattle.reading.proofs.Laws.{run-bind}
+use Rattle.reading.proofs.RunLaws.{run-bind}
 use Rattle.sheet.specs.Format.{text}
 use Rattle.sheet.proofs.text_at.Statement.{statement}
 use Rattle.sheet.proofs.text_at.Tie as tie

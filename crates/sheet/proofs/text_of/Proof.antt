@@ -7,7 +7,7 @@ use mathlib.Core.Path.{refl}
 use native.Mathlib.Omega.{arith}
 use denote.Ref.{now}
 use Rattle.reading.specs.Reading.{run, here, andThen}
-use Rattle.reading.proofs.Laws.{run-bind}
+use Rattle.reading.proofs.RunLaws.{run-bind}
 use Rattle.sheet.specs.Format.{bytes, textOf}
 use Rattle.sheet.proofs.text_of.Statement.{statement}
 use Rattle.sheet.proofs.text_of.Tie as tie

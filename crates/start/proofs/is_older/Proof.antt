@@ -1,4 +1,4 @@
--- `header::is_older` meets its contract: its four numbers are the definition's. Assumes nothing.
+-- `start::is_older` meets its contract: its four numbers are the definition's. Assumes nothing.
 use borrow.Author.Tests.{ne-eqb}
 use mathlib.Core.Logic.{inl, inr, ⊎-elim}
 use Rattle.start.proofs.is_older.Statement.{statement}

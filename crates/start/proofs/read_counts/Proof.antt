@@ -1,11 +1,11 @@
--- `header::read_counts` meets its contract: two sizes, and then each count is compared with its rows. Assumes nothing.
+-- `start::read_counts` meets its contract: two sizes, and then each count is compared with its rows. Assumes nothing.
 use borrow.Author.Needs.{needs}
 use borrow.Author.Tests.{le-leb, lt-leb}
 use mathlib.Core.Path.{_≡_, refl, sym, ap, _∙_}
 use denote.Ref.{now}
 use Rattle.reading.specs.Reading.{accepted, run, here, andThen}
 use Rattle.fields.specs.Value.{asNumber}
-use Rattle.reading.proofs.Laws.{run-bind}
+use Rattle.reading.proofs.RunLaws.{run-bind}
 use Rattle.values.specs.Format.{size}
 use Rattle.start.specs.Format.{counts}
 use Rattle.start.proofs.read_counts.Statement.{statement}

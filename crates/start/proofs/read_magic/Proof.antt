@@ -1,4 +1,4 @@
--- `header::read_magic` meets its contract: a number of four bytes, and the definition's three tests in its order. Assumes nothing.
+-- `start::read_magic` meets its contract: a number of four bytes, and the definition's three tests in its order. Assumes nothing.
 use borrow.Author.Needs.{needs}
 use borrow.Author.Tests.{eq-eqb, ne-eqb}
 use mathlib.Core.Path.{_≡_, refl, sym, ap, _∙_}
@@ -6,7 +6,7 @@ use mathlib.Core.Bool.{false}
 use denote.Ref.{now}
 use Rattle.reading.specs.Reading.{accepted, run, here, andThen}
 use Rattle.fields.specs.Value.{number, asNumber}
-use Rattle.reading.proofs.Laws.{run-bind}
+use Rattle.reading.proofs.RunLaws.{run-bind}
 use Rattle.fields.proofs.Numbers.{number-refused}
 use Rattle.start.specs.Format.{magic}
 use Rattle.start.proofs.read_magic.Statement.{statement}

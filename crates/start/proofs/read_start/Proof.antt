@@ -1,13 +1,13 @@
--- `header::read_start` meets its contract: the magic and the counts have no mark, so that ceilings change nothing there, and each step is as its
+-- `start::read_start` meets its contract: the magic and the counts have no mark, so that ceilings change nothing there, and each step is as its
 -- function answers. Assumes nothing.
 use borrow.Author.Needs.{needs}
 use mathlib.Core.Path.{_≡_, refl, sym, ap, _∙_}
 use denote.Ref.{now}
 use Rattle.reading.specs.Reading.{accepted, run, andThen}
-use Rattle.reading.proofs.Ceilings.{run-under}
+use Rattle.reading.proofs.CeilingLaws.{run-under}
 use Rattle.start.specs.Format.{magic, start}
 use Rattle.start.specs.Answers.{asMagic, asVersion}
-use Rattle.start.proofs.Low.{under-magic, under-counts}
+use Rattle.start.proofs.StartMarks.{under-magic, under-counts}
 use Rattle.start.proofs.read_start.Statement.{statement}
 use Rattle.start.proofs.read_start.Tie as tie
 

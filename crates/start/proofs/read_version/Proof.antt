@@ -1,4 +1,4 @@
--- `header::read_version` meets its contract: a number of four bytes, the test of refusal 4, and then the ceiling. Assumes nothing.
+-- `start::read_version` meets its contract: a number of four bytes, the test of refusal 4, and then the ceiling. Assumes nothing.
 use borrow.Author.Needs.{needs}
 use borrow.Author.Tests.{le-leb, lt-leb, eq-eqb, ne-eqb}
 use mathlib.Core.Path.{_≡_, refl, sym, ap, _∙_}
@@ -6,7 +6,7 @@ use denote.Ref.{now}
 use Rattle.reading.specs.Reading.{accepted, run, here, andThen}
 use Rattle.fields.specs.Value.{number, asNumber}
 use Rattle.reading.specs.Ceilings.{under}
-use Rattle.reading.proofs.Ceilings.{run-under}
+use Rattle.reading.proofs.CeilingLaws.{run-under}
 use Rattle.fields.proofs.NumberFields.{under-number}
 use Rattle.fields.proofs.Numbers.{number-refused}
 use Rattle.start.specs.Format.{version}

@@ -1,4 +1,4 @@
--- `strutpebble::sp_read` meets its contract: `header::read`'s answer, told as numbers. Assumes nothing.
+-- `strutpebble::sp_read` meets its contract: `strutpebble::read`'s answer, told as numbers. Assumes nothing.
 use borrow.Author.Needs.{needs}
 use mathlib.Core.Path.{ap, _∙_}
 use Rattle.words.specs.Words.{numberOf, wordsOf}
@@ -9,7 +9,7 @@ returns : tie.Need-returns
 returns c =
     let w = c .before in
     let r = w .before .before .before in
-    rw (← r .before .before .before .ceilings .ensures) (c .number-of .ensures ∙ ap numberOf (r .read .ensures .0), (w .words-of .ensures ∙ ap wordsOf (r .read .ensures .0), (r .read .ensures .1 .0, r .read .ensures .1 .1)))
+    rw (← r .before .before .before .ceilings .ensures) (c .number-of .ensures ∙ ap numberOf (r .read .ensures .answer), (w .words-of .ensures ∙ ap wordsOf (r .read .ensures .answer), (r .read .ensures .entryRows, r .read .ensures .tensorRows)))
 
 pub sp-read-spec : {M : Type 1} → statement M
 sp-read-spec =

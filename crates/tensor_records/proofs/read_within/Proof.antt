@@ -1,4 +1,4 @@
--- `tensor_records::read_within` meets its contract: `header::read` fills the part that it is lent, and so the table (`part-read`).
+-- `tensor_records::read_within` meets its contract: `tensor_records::read` fills the part that it is lent, and so the table (`part-read`).
 -- Assumes nothing.
 use borrow.Author.Needs.{needs}
 use mathlib.Core.Path.{_∙_}
@@ -14,7 +14,7 @@ returns c =
     let a = c .before .before .before .before .before .before .before .args in
     let e = c .before .before .before .before .before .shorter in
     let h = c .before .before .read in
-    part-read (a .limits) (a .cap) (now (a .entries)) (now (a .rows)) (now (a .s)) (a .room) (e .result - 0) (sub-zero (e .result) ∙ e .ensures) (h .result) (h .ensures .0) (h .ensures .1 .0) (h .ensures .1 .1)
+    part-read (a .limits) (a .cap) (now (a .entries)) (now (a .rows)) (now (a .s)) (a .room) (e .result - 0) (sub-zero (e .result) ∙ e .ensures) (h .result) (h .ensures .answer) (h .ensures .entryRows) (h .ensures .tensorRows)
 
 pub read-within-spec : {M : Type 1} → statement M
 read-within-spec =

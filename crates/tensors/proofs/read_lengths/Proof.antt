@@ -1,9 +1,9 @@
--- `records::read_lengths` meets its contract: a length for each of the four places. Assumes nothing.
+-- `tensors::read_lengths` meets its contract: a length for each of the four places. Assumes nothing.
 use borrow.Author.Needs.{needs}
 use mathlib.Core.Path.{refl, sym, ap, _∙_}
 use Rattle.reading.specs.Reading.{run, andThen}
 use Rattle.fields.specs.Value.{asNumber}
-use Rattle.reading.proofs.Laws.{run-bind}
+use Rattle.reading.proofs.RunLaws.{run-bind}
 use Rattle.tensors.specs.Format.{lengthsOf}
 use Rattle.tensors.proofs.read_lengths.Statement.{statement}
 use Rattle.tensors.proofs.read_lengths.Tie as tie

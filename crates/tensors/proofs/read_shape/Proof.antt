@@ -1,10 +1,10 @@
--- `records::read_shape` meets its contract: the count, the test of refusal 10, and the lengths. Assumes nothing.
+-- `tensors::read_shape` meets its contract: the count, the test of refusal 10, and the lengths. Assumes nothing.
 use borrow.Author.Needs.{needs}
 use borrow.Author.Tests.{le-leb, lt-leb}
 use mathlib.Core.Path.{refl, sym, ap, _∙_}
 use Rattle.reading.specs.Reading.{run, here, andThen}
 use Rattle.fields.specs.Value.{asNumber}
-use Rattle.reading.proofs.Laws.{run-bind}
+use Rattle.reading.proofs.RunLaws.{run-bind}
 use Rattle.fields.proofs.Numbers.{number-refused}
 use Rattle.tensors.specs.Format.{shape}
 use Rattle.tensors.proofs.read_shape.Statement.{statement}

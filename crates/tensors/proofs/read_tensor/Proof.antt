@@ -1,17 +1,17 @@
--- `records::read_tensor` meets its contract: the name, the shape, the kind and the offset, and then what must fit.
+-- `tensors::read_tensor` meets its contract: the name, the shape, the kind and the offset, and then what must fit.
 -- Assumes nothing.
 use borrow.Author.Needs.{needs}
 use mathlib.Core.Path.{_≡_, refl, sym, ap, _∙_}
 use denote.Ref.{now}
 use Rattle.reading.specs.Reading.{accepted, run, here, andThen}
 use Rattle.reading.specs.Ceilings.{under}
-use Rattle.reading.proofs.Ceilings.{run-under}
+use Rattle.reading.proofs.CeilingLaws.{run-under}
 use Rattle.values.specs.Format.{text}
-use Rattle.tensors.specs.Format.{shape, stored, tensor}
+use Rattle.tensors.specs.Format.{shape, kindAndOffset, tensor}
 use Rattle.values.specs.Answers.{asText}
-use Rattle.tensors.specs.Answers.{asShape, asStored}
-use Rattle.values.proofs.Low.{under-text}
-use Rattle.tensors.proofs.Low.{under-shape}
+use Rattle.tensors.specs.Answers.{asShape, asKindAndOffset}
+use Rattle.values.proofs.ValueMarks.{under-text}
+use Rattle.tensors.proofs.TensorMarks.{under-shape}
 use Rattle.tensors.proofs.Fitting.{judged, stored-known}
 use Rattle.tensors.proofs.read_tensor.Statement.{statement}
 use Rattle.tensors.proofs.read_tensor.Tie as tie
@@ -31,10 +31,10 @@ shaped c = ap asShape (sym (c .shape .given .1)) ∙ c .before .before .read-sha
 kept : (c : tie.After-stored) →
     let x = c .before .before .before .before in
     let a = x .before .before .before .before .before .before .before .before .args in
-    accepted (c .stored .given .0 .0) (c .stored .given .0 .1 .0) ≡ run (under (a .limits) (stored (a .dialect))) (now (a .s)) (x .shape .given .0 .1 .0)
-kept c = ap asStored (sym (c .stored .given .1)) ∙ c .before .before .read-stored .ensures
+    accepted (c .stored .given .0 .0) (c .stored .given .0 .1 .0) ≡ run (under (a .limits) (kindAndOffset (a .dialect))) (now (a .s)) (x .shape .given .0 .1 .0)
+kept c = ap asKindAndOffset (sym (c .stored .given .1)) ∙ c .before .before .read-kind-and-offset .ensures
 
-fitted-requires : tie.Need-fitted-requires
+fitted-requires : tie.Need-fitting-tensor-requires
 fitted-requires c κs = stored-known _ _ _ _ (kept (c .before))
 
 returns : tie.Need-returns
@@ -53,7 +53,7 @@ returns-2 c =
 returns-3 : tie.Need-returns-3
 unfolding tensor here under run andThen
 returns-3 c =
-    let r = ap asStored (sym (c .before .why3 .given .1)) ∙ c .before .before .before .read-stored .ensures in
+    let r = ap asKindAndOffset (sym (c .before .why3 .given .1)) ∙ c .before .before .before .read-kind-and-offset .ensures in
     let x = c .before .before .before .before .before in
     rw (run-under, run-under, under-text, ← named (x .before .before .before .before), run-under, under-shape, ← shaped x, run-under, ← r) refl
 
@@ -63,7 +63,7 @@ returns-4 c =
     let y = c .before .before in
     let x = y .before .before .before .before in
     let n = x .before .before .before .before in
-    rw (run-under, run-under, under-text, ← named n, run-under, under-shape, ← shaped x, run-under, ← kept y, judged) (c .fitted .ensures)
+    rw (run-under, run-under, under-text, ← named n, run-under, under-shape, ← shaped x, run-under, ← kept y, judged) (c .fitting-tensor .ensures)
 
 pub read-tensor-spec : {M : Type 1} → statement M
 read-tensor-spec =

@@ -1,4 +1,4 @@
--- `records::begins_at` meets its contract. Of too few bytes none begin with the word; else the invariant: from the byte i on, the comparison
+-- `values::begins_at` meets its contract. Of too few bytes none begin with the word; else the invariant: from the byte i on, the comparison
 -- answers what the whole one does. Assumes nothing.
 use Prim.Native.Nat.{_-_, _≤_}
 use mathlib.Core.Path.{_≡_, sym, _∙_}

@@ -1,4 +1,4 @@
--- `records::entry_row` meets its contract: the five words of the value follow the key's place and length.
+-- `values::entry_row` meets its contract: the five words of the value follow the key's place and length.
 -- Assumes nothing.
 use borrow.Author.Needs.{needs}
 use mathlib.Core.Path.{_≡_, refl}

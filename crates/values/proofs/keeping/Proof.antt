@@ -1,4 +1,4 @@
--- `records::keeping` meets its contract: a single value and a text stay as they are, and an array keeps the smaller of the cap and its count where the key tells so, and else its count.
+-- `values::keeping` meets its contract: a single value and a text stay as they are, and an array keeps the smaller of the cap and its count where the key tells so, and else its count.
 -- Assumes nothing.
 use borrow.Author.Needs.{needs}
 use native.Mathlib.Nat.{min-eq-left, min-eq-right, le-of-lt}

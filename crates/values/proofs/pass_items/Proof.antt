@@ -1,4 +1,4 @@
--- `records::pass_items` meets its contract: of texts and of scalars the same is kept as of values, and an array is refused where none may stand.
+-- `values::pass_items` meets its contract: of texts and of scalars the same is kept as of values, and an array is refused where none may stand.
 -- Assumes nothing.
 use borrow.Author.Needs.{needs}
 use Prim.Native.Nat.{_<_}
@@ -9,11 +9,11 @@ use denote.Ref.{now}
 use Rattle.reading.specs.Reading.{refused, run, andThen, seen, passed}
 use Rattle.reading.specs.Each.{each}
 use Rattle.fields.specs.Value.{number}
-use Rattle.reading.proofs.Turns.{times-alike, passed-not}
+use Rattle.reading.proofs.Repetition.{times-alike, passed-not}
 use Rattle.values.specs.Format.{text, array, valueOf}
 use Rattle.scalars.specs.Scalars.{scalarWidth}
 use Rattle.scalars.proofs.Types.{scalar-else}
-use Rattle.values.proofs.Items.{value-array, passed-scalar, passed-text}
+use Rattle.values.proofs.ValueForms.{value-array, passed-scalar, passed-text}
 use Rattle.values.proofs.pass_items.Statement.{statement}
 use Rattle.values.proofs.pass_items.Tie as tie
 

@@ -1,4 +1,4 @@
--- `records::pass_scalars` meets its contract. The invariant: from here, the scalars that are left give what all of them do. Assumes nothing.
+-- `values::pass_scalars` meets its contract. The invariant: from here, the scalars that are left give what all of them do. Assumes nothing.
 use borrow.Author.Needs.{needs}
 use Prim.Native.Nat.{_-_, _≤_}
 use mathlib.Core.Path.{_≡_, sym, ap, _∙_}
@@ -9,7 +9,7 @@ use Rattle.reading.specs.Reading.{run, passed, seen}
 use Rattle.reading.specs.Each.{times}
 use Rattle.fields.specs.Value.{number, asNumber}
 use Rattle.scalars.specs.Scalars.{scalarWidth}
-use Rattle.reading.proofs.Turns.{times-ends, times-passed, times-stops}
+use Rattle.reading.proofs.Repetition.{times-ends, times-passed, times-stops}
 use Rattle.values.proofs.pass_scalars.Statement.{statement}
 use Rattle.values.proofs.pass_scalars.Tie as tie
 

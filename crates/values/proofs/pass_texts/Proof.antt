@@ -1,4 +1,4 @@
--- `records::pass_texts` meets its contract. The invariant: from here, the texts that are left give what all of them do. Assumes nothing.
+-- `values::pass_texts` meets its contract. The invariant: from here, the texts that are left give what all of them do. Assumes nothing.
 use borrow.Author.Needs.{needs}
 use Prim.Native.Nat.{_-_, _≤_}
 use mathlib.Core.Path.{_≡_, sym, ap, _∙_}
@@ -9,7 +9,7 @@ use Rattle.reading.specs.Reading.{run, passed, seen}
 use Rattle.reading.specs.Each.{times}
 use Rattle.values.specs.Format.{text}
 use Rattle.values.specs.Answers.{asText}
-use Rattle.reading.proofs.Turns.{times-ends, times-passed, times-stops}
+use Rattle.reading.proofs.Repetition.{times-ends, times-passed, times-stops}
 use Rattle.values.proofs.pass_texts.Statement.{statement}
 use Rattle.values.proofs.pass_texts.Tie as tie
 

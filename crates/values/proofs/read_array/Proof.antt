@@ -1,4 +1,4 @@
--- `records::read_array` meets its contract: the item type, the count, and then every item is passed. Assumes nothing.
+-- `values::read_array` meets its contract: the item type, the count, and then every item is passed. Assumes nothing.
 use borrow.Author.Needs.{needs}
 use mathlib.Core.Path.{_≡_, refl, sym, ap, _∙_}
 use mathlib.Core.List.{List}
@@ -6,12 +6,12 @@ use denote.Ref.{now}
 use Rattle.reading.specs.Reading.{Reading, accepted, run, here, andThen}
 use Rattle.reading.specs.Each.{times}
 use Rattle.fields.specs.Value.{asNumber}
-use Rattle.reading.proofs.Laws.{run-bind}
-use Rattle.reading.proofs.Turns.{seen-accepted, seen-refused}
+use Rattle.reading.proofs.RunLaws.{run-bind}
+use Rattle.reading.proofs.Repetition.{seen-accepted, seen-refused}
 use Rattle.values.specs.Format.{size, type, valueOf, array}
 use Rattle.values.specs.declared.Value.{Value}
 use Rattle.values.specs.Answers.{asPassed}
-use Rattle.values.proofs.Items.{type-known}
+use Rattle.values.proofs.ValueForms.{type-known}
 use Rattle.values.proofs.read_array.Statement.{statement}
 use Rattle.values.proofs.read_array.Tie as tie
 

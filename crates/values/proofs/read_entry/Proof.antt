@@ -1,8 +1,8 @@
--- `records::read_entry` meets its contract: a key, a value, and the count that the key lets the value keep. Assumes nothing.
+-- `values::read_entry` meets its contract: a key, a value, and the count that the key lets the value keep. Assumes nothing.
 use borrow.Author.Needs.{needs}
 use mathlib.Core.Path.{refl, sym, ap, _∙_}
 use Rattle.reading.specs.Reading.{run, andThen}
-use Rattle.reading.proofs.Laws.{run-bind}
+use Rattle.reading.proofs.RunLaws.{run-bind}
 use Rattle.values.specs.Format.{entry}
 use Rattle.values.specs.Answers.{asKey, asValue}
 use Rattle.values.proofs.read_entry.Statement.{statement}

@@ -1,4 +1,4 @@
--- `records::read_key` meets its contract: a key is a text, and what its first bytes decide. Assumes nothing.
+-- `values::read_key` meets its contract: a key is a text, and what its first bytes decide. Assumes nothing.
 use borrow.Author.Needs.{needs}
 use mathlib.Core.Path.{_≡_, refl, sym, ap, _∙_}
 use denote.Ref.{now}
@@ -15,10 +15,10 @@ found : (c : tie.After-span) →
     accepted (c .span .given .0 .0) (c .span .given .0 .1 .0) ≡ run (text (a .dialect)) (now (a .s)) (a .at)
 found c = ap asText (sym (c .span .given .1)) ∙ c .before .before .read-string .ensures
 
-is-alignment-requires : tie.Need-is-alignment-requires
+is-alignment-requires : tie.Need-is-alignment-key-requires
 is-alignment-requires c κs = text-inside _ _ _ (found (c .before)) .there
 
-is-tokenizer-requires : tie.Need-is-tokenizer-requires
+is-tokenizer-requires : tie.Need-is-tokenizer-key-requires
 is-tokenizer-requires c κs = text-inside _ _ _ (found (c .before .before)) .there
 
 returns : tie.Need-returns
@@ -31,7 +31,7 @@ returns-2 : tie.Need-returns-2
 unfolding key andThen
 returns-2 c =
     let r = found (c .before .before .before) in
-    rw (text-looked 18 keyOf, ← r, c .before .is-alignment .ensures, c .is-tokenizer .ensures) refl
+    rw (text-looked 18 keyOf, ← r, c .before .is-alignment-key .ensures, c .is-tokenizer-key .ensures) refl
 
 pub read-key-spec : {M : Type 1} → statement M
 read-key-spec =

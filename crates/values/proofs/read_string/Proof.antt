@@ -1,4 +1,4 @@
--- `records::read_string` meets its contract: a size, the test of refusal 7, and then the bytes, which are passed. Assumes nothing.
+-- `values::read_string` meets its contract: a size, the test of refusal 7, and then the bytes, which are passed. Assumes nothing.
 use borrow.Author.Needs.{needs}
 use borrow.Author.Tests.{le-leb, lt-leb}
 use Prim.Native.Nat.{_+_, _≤_, _<_}
@@ -8,7 +8,7 @@ use native.Mathlib.Omega.{arith}
 use denote.Ref.{now}
 use Rattle.reading.specs.Reading.{run, here, andThen, accepted}
 use Rattle.fields.specs.Value.{asNumber}
-use Rattle.reading.proofs.Laws.{run-bind}
+use Rattle.reading.proofs.RunLaws.{run-bind}
 use Rattle.values.specs.Format.{size, text, textLooking}
 use Rattle.values.proofs.Texts.{size-within}
 use Rattle.values.proofs.read_string.Statement.{statement}

@@ -1,10 +1,10 @@
--- `records::read_type` meets its contract: a number of four bytes, and the test of refusal 8. Assumes nothing.
+-- `values::read_type` meets its contract: a number of four bytes, and the test of refusal 8. Assumes nothing.
 use borrow.Author.Needs.{needs}
 use borrow.Author.Tests.{le-leb, lt-leb}
 use mathlib.Core.Path.{refl, sym, ap, _∙_}
 use Rattle.reading.specs.Reading.{run, here, andThen}
 use Rattle.fields.specs.Value.{asNumber}
-use Rattle.reading.proofs.Laws.{run-bind}
+use Rattle.reading.proofs.RunLaws.{run-bind}
 use Rattle.fields.proofs.Numbers.{number-refused}
 use Rattle.values.specs.Format.{type}
 use Rattle.values.proofs.read_type.Statement.{statement}

@@ -1,11 +1,11 @@
--- `records::read_value` meets its contract: a type, and a value of it. Assumes nothing.
+-- `values::read_value` meets its contract: a type, and a value of it. Assumes nothing.
 use borrow.Author.Needs.{needs}
 use mathlib.Core.Path.{refl, sym, ap, _∙_}
 use Rattle.reading.specs.Reading.{run, here, andThen}
 use Rattle.fields.specs.Value.{asNumber}
-use Rattle.reading.proofs.Laws.{run-bind}
+use Rattle.reading.proofs.RunLaws.{run-bind}
 use Rattle.values.specs.Format.{value}
-use Rattle.values.proofs.Items.{type-known}
+use Rattle.values.proofs.ValueForms.{type-known}
 use Rattle.values.proofs.read_value.Statement.{statement}
 use Rattle.values.proofs.read_value.Tie as tie
 

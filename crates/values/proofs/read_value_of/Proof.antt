@@ -1,4 +1,4 @@
--- `records::read_value_of` meets its contract: an array, a text or a scalar, by the type. Assumes nothing.
+-- `values::read_value_of` meets its contract: an array, a text or a scalar, by the type. Assumes nothing.
 use borrow.Author.Needs.{needs}
 use Prim.Native.Nat.{_<_}
 use mathlib.Core.Path.{refl, sym, ap, _∙_}
@@ -8,7 +8,7 @@ use Rattle.values.specs.Format.{array}
 use Rattle.scalars.specs.Scalars.{scalarWidth}
 use Rattle.values.specs.Answers.{asText, asArray}
 use Rattle.scalars.proofs.Types.{scalar-else}
-use Rattle.values.proofs.Items.{value-scalar, value-text, value-array}
+use Rattle.values.proofs.ValueForms.{value-scalar, value-text, value-array}
 use Rattle.values.proofs.read_value_of.Statement.{statement}
 use Rattle.values.proofs.read_value_of.Tie as tie
 

@@ -17,10 +17,10 @@ six-words (Text a) = refl
 six-words (Array a) = refl
 
 returns : tie.Need-returns
-returns c = rw (c .alone .ensures, c .before .enum-told .given .1)
+returns c = rw (c .one-word .ensures, c .before .enum-told .given .1)
 
 returns-2 : tie.Need-returns-2
-returns-2 c = rw (c .alone2 .ensures, c .before .before .found .given .1)
+returns-2 c = rw (c .one-word2 .ensures, c .before .before .found .given .1)
 
 returns-3 : tie.Need-returns-3
 returns-3 c = rw (c .entry-row .ensures, c .before .before .found2 .given .1, six-words (c .before .before .found2 .given .0 .0 .value))

@@ -4,10 +4,10 @@ use Rattle.words.proofs.range_words.Statement.{statement}
 use Rattle.words.proofs.range_words.Tie as tie
 
 returns : tie.Need-returns
-returns c = rw (c .alone .ensures, c .before .enum-told .given .1)
+returns c = rw (c .one-word .ensures, c .before .enum-told .given .1)
 
 returns-2 : tie.Need-returns-2
-returns-2 c = rw (c .alone2 .ensures, c .before .before .check .given .1)
+returns-2 c = rw (c .one-word2 .ensures, c .before .before .check .given .1)
 
 pub range-words-spec : {M : Type 1} → statement M
 range-words-spec =

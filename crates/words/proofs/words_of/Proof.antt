@@ -4,7 +4,7 @@ use Rattle.words.proofs.words_of.Statement.{statement}
 use Rattle.words.proofs.words_of.Tie as tie
 
 returns : tie.Need-returns
-returns c = rw (c .alone .ensures, c .before .before .read .given .1)
+returns c = rw (c .one-word .ensures, c .before .before .read .given .1)
 
 returns-2 : tie.Need-returns-2
 returns-2 c = rw (c .before .before .read2 .given .1, c .if1 .taken)

@@ -4,7 +4,7 @@ use Rattle.words.proofs.written_words.Statement.{statement}
 use Rattle.words.proofs.written_words.Tie as tie
 
 returns : tie.Need-returns
-returns c = rw (c .alone .ensures, c .before .before .written .given .1)
+returns c = rw (c .one-word .ensures, c .before .before .written .given .1)
 
 returns-2 : tie.Need-returns-2
 returns-2 c = rw (c .before .written2 .given .1)

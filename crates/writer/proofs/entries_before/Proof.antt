@@ -21,17 +21,17 @@ abbrev μ-loop : tie.MeasureT-loop
 loop-holds : tie.Need-loop-holds Inv-loop μ-loop
 loop-holds c = passed-start _ _ (c .before .pre)
 
-entry-again-requires : tie.Need-entry-again-requires Inv-loop μ-loop
+entry-again-requires : tie.Need-known-entry-requires Inv-loop μ-loop
 entry-again-requires c κs = next-there metadata _ _ _ _ (c .loop-test .taken) (c .before .loop .inv .all)
 
 -- the entry that was read again
 entry : (c : tie.After-entry-again Inv-loop μ-loop) →
     let l = c .before .before in
-    EntryThere (now (l .before .before .args .s)) (l .loop .from) (c .entry-again .result .parts) (c .entry-again .result .next)
-entry c = entry-there _ _ (c .entry-again .ensures)
+    EntryThere (now (l .before .before .args .s)) (l .loop .from) (c .known-entry .result .parts) (c .known-entry .result .next)
+entry c = entry-there _ _ (c .known-entry .ensures)
 
 -- whether the alignment's key comes before its own
-ahead : (c : tie.After-comes-before Inv-loop μ-loop) → before alignmentKey (entry (c .before .before .before .before .before) .what .entered .key) ≡ c .comes-before .result
+ahead : (c : tie.After-comes-before Inv-loop μ-loop) → before alignmentKey (entry (c .before .before .before .before .before) .what .content .key) ≡ c .comes-before .result
 ahead c =
     let x = entry (c .before .before .before .before .before) in
     ap (before alignmentKey) (sym (c .before .inside .ensures ∙ x .key)) ∙ sym (c .comes-before .ensures)

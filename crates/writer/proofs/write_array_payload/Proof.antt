@@ -6,16 +6,16 @@ use mathlib.Core.Path.{_≡_, sym, ap, _∙_}
 use native.Mathlib.Omega.{arith}
 use lib.ListN.{length}
 use denote.Ref.{now}
-use Rattle.reading.specs.Back.{got, rows}
+use Rattle.reading.specs.Back.{got, bytesOfAll}
 use Rattle.reading.specs.Each.{times}
 use Rattle.reading.specs.Reading.{accepted, run}
 use Rattle.fields.specs.Value.{asNumber, number}
 use Rattle.fields.proofs.Chain.{chain}
-use Rattle.values.specs.Contents.{saidBytes}
+use Rattle.values.specs.Contents.{valueBytes}
 use Rattle.values.specs.Format.{sizeWidth, depth}
 use Rattle.sheet.specs.Format.{item}
-use Rattle.writer.proofs.Rows.{wrote-as}
-use Rattle.writer.proofs.Said.{ArraySaid, no-type, no-count, array-said}
+use Rattle.writer.proofs.RowsWritten.{wrote-as}
+use Rattle.writer.proofs.ValuesWritten.{ArraySaid, no-type, no-count, array-said}
 use Rattle.writer.proofs.write_array_payload.Statement.{statement}
 use Rattle.writer.proofs.write_array_payload.Tie as tie
 
@@ -43,7 +43,7 @@ said c =
 room : (c : tie.After-n) →
     let t = c .before .before .before .before in
     let a = t .before .before .before .before .before .args in
-    4 + sizeWidth (a .dialect) + length (rows (saidBytes depth (a .dialect)) (got (run (times (c .n .given .0 .0) (item depth (t .t .given .0 .0))) (now (a .s)) (c .n .given .0 .1 .0)))) ≤ length (now (a .out))
+    4 + sizeWidth (a .dialect) + length (bytesOfAll (valueBytes depth (a .dialect)) (got (run (times (c .n .given .0 .0) (item depth (t .t .given .0 .0))) (now (a .s)) (c .n .given .0 .1 .0)))) ≤ length (now (a .out))
 room c = rw (said c .size) at (c .before .before .before .before .before .before .before .before .before .pre .1)
 
 four : (c : tie.After-n) → 4 ≤ length (now (c .before .before .before .before .before .before .before .before .before .args .out))

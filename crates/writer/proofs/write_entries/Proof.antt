@@ -5,21 +5,21 @@ use mathlib.Core.Path.{sym, ap, subst, _∙_}
 use native.Mathlib.Omega.{arith}
 use lib.ListN.{length, length-take, length-drop}
 use denote.Ref.{now}
-use Rattle.reading.specs.Back.{got, rows}
+use Rattle.reading.specs.Back.{got, bytesOfAll}
 use Rattle.reading.specs.Each.{times}
 use Rattle.reading.specs.Reading.{run}
 use Rattle.values.specs.Contents.{entryBytes}
-use Rattle.plan.specs.Header.{enteredIn}
+use Rattle.plan.specs.Header.{entryIn}
 use Rattle.sheet.specs.Format.{metadata}
 use Rattle.sheet.proofs.Steps.{next-there}
 use Rattle.plan.proofs.Sizes.{entry-size}
 use Rattle.writer.proofs.Entries.{EntryThere, entry-there}
-use Rattle.writer.proofs.Rows.{wrote-as, rows-map, Left, left-start, left-room, left-turn, left-end}
+use Rattle.writer.proofs.RowsWritten.{wrote-as, rows-map, Left, left-start, left-room, left-turn, left-end}
 use Rattle.writer.proofs.write_entries.Statement.{statement}
 use Rattle.writer.proofs.write_entries.Tie as tie
 
 abbrev Inv-loop : tie.InvT-loop
-Inv-loop out₀ s at n dialect from₀ done₀ i₀ out from done i = Left metadata (λ e. entryBytes dialect (enteredIn e)) s at n out₀ out from done i
+Inv-loop out₀ s at n dialect from₀ done₀ i₀ out from done i = Left metadata (λ e. entryBytes dialect (entryIn e)) s at n out₀ out from done i
 
 abbrev μ-loop : tie.MeasureT-loop
 μ-loop out₀ s at n dialect from₀ done₀ i₀ out from done i = n - i
@@ -27,28 +27,28 @@ abbrev μ-loop : tie.MeasureT-loop
 loop-holds : tie.Need-loop-holds Inv-loop μ-loop
 loop-holds c = left-start _ _ _ _ _ _ (c .before .before .pre .0)
 
-entry-again-requires : tie.Need-entry-again-requires Inv-loop μ-loop
+entry-again-requires : tie.Need-known-entry-requires Inv-loop μ-loop
 entry-again-requires c κs = next-there metadata _ _ _ _ (c .loop-test .taken) (c .before .loop .inv .all)
 
 -- the entry that was read again
 entry : (c : tie.After-entry-again Inv-loop μ-loop) →
     let l = c .before .before in
-    EntryThere (now (l .before .before .before .args .s)) (l .loop .from) (c .entry-again .result .parts) (c .entry-again .result .next)
-entry c = entry-there _ _ (c .entry-again .ensures)
+    EntryThere (now (l .before .before .before .args .s)) (l .loop .from) (c .known-entry .result .parts) (c .known-entry .result .next)
+entry c = entry-there _ _ (c .known-entry .ensures)
 
 -- there is room for all the entries, and so for this one
 all-room : (c : tie.After-entry-again Inv-loop μ-loop) →
     let a = c .before .before .before .before .before .args in
-    length (rows (λ e. entryBytes (a .dialect) (enteredIn e)) (got (run (times (a .n) metadata) (now (a .s)) (a .at)))) ≤ length (now (a .out))
+    length (bytesOfAll (λ e. entryBytes (a .dialect) (entryIn e)) (got (run (times (a .n) metadata) (now (a .s)) (a .at)))) ≤ length (now (a .out))
 all-room c =
     let u = c .before .before .before .before .before in
     let a = u .args in
-    subst (λ l. length l ≤ length (now (a .out))) (rows-map (entryBytes (a .dialect)) enteredIn (got (run (times (a .n) metadata) (now (a .s)) (a .at)))) (u .pre .1)
+    subst (λ l. length l ≤ length (now (a .out))) (rows-map (entryBytes (a .dialect)) entryIn (got (run (times (a .n) metadata) (now (a .s)) (a .at)))) (u .pre .1)
 
 room : (c : tie.After-entry-again Inv-loop μ-loop) →
     let l = c .before .before .loop in
     let a = c .before .before .before .before .before .args in
-    l .done + length (entryBytes (a .dialect) (entry c .what .entered)) ≤ length (l .out)
+    l .done + length (entryBytes (a .dialect) (entry c .what .content)) ≤ length (l .out)
 room c = left-room _ _ _ _ _ (c .before .before .loop .inv) (c .before .loop-test .taken) (entry c .is) (all-room c)
 
 sub-write-entry : tie.Need-sub-write-entry Inv-loop μ-loop
@@ -90,7 +90,7 @@ returns : tie.Need-returns Inv-loop μ-loop
 returns c =
     let a = c .before .before .before .before .args in
     let r = left-end _ _ _ _ _ (c .before .loop .inv) (c .loop-test .left) in
-    (wrote-as (sym (rows-map (entryBytes (a .dialect)) enteredIn (got (run (times (a .n) metadata) (now (a .s)) (a .at))))) (r .0), r .1)
+    (wrote-as (sym (rows-map (entryBytes (a .dialect)) entryIn (got (run (times (a .n) metadata) (now (a .s)) (a .at))))) (r .0), r .1)
 
 pub write-entries-spec : {M : Type 1} → statement M
 write-entries-spec =

@@ -11,9 +11,9 @@ use Rattle.values.specs.Contents.{textBytes}
 use Rattle.values.specs.Format.{depth}
 use Rattle.sheet.specs.Format.{item}
 use Rattle.sheet.specs.declared.Stepped.the-variants.{To}
-use Rattle.sheet.proofs.Items.{has-width, item-scalar}
-use Rattle.writer.proofs.Rows.{wrote-as}
-use Rattle.writer.proofs.Said.{ScalarSaid, scalar-said, ItemText, item-no, item-yes}
+use Rattle.sheet.proofs.SheetItems.{has-width, item-scalar}
+use Rattle.writer.proofs.RowsWritten.{wrote-as}
+use Rattle.writer.proofs.ValuesWritten.{ScalarSaid, scalar-said, ItemText, item-no, item-yes}
 use Rattle.writer.proofs.write_item.Statement.{statement}
 use Rattle.writer.proofs.write_item.Tie as tie
 

@@ -6,23 +6,23 @@ use mathlib.Core.List.{map}
 use native.Mathlib.Omega.{arith}
 use lib.ListN.{length}
 use denote.Ref.{now}
-use Rattle.reading.specs.Back.{got, rows}
+use Rattle.reading.specs.Back.{got, bytesOfAll}
 use Rattle.reading.specs.Each.{times}
 use Rattle.reading.specs.Reading.{run}
 use Rattle.fields.proofs.Chain.{chain}
 use Rattle.values.specs.Contents.{entryBytes}
 use Rattle.values.specs.Format.{sizeWidth}
-use Rattle.plan.specs.Header.{inserted, entriesWith, enteredIn}
+use Rattle.plan.specs.Header.{inserted, entriesWith, entryIn}
 use Rattle.sheet.specs.Format.{metadata}
 use Rattle.writer.proofs.Entries.{written, Apart, apart-mid, apart}
-use Rattle.writer.proofs.Rows.{wrote-as}
+use Rattle.writer.proofs.RowsWritten.{wrote-as}
 use Rattle.writer.proofs.write_metadata_section.Statement.{statement}
 use Rattle.writer.proofs.write_metadata_section.Tie as tie
 
 -- where the alignment's own is added there is room for it and for all the others
 all-room : (c : tie.After-entries-before) →
     let a = c .before .before .before .before .args in
-    length (rows (entryBytes (a .dialect)) (inserted (a .alignment) (map enteredIn (got (run (times (a .draft .entries) metadata) (now (a .s)) 1))))) ≤ length (now (a .out))
+    length (bytesOfAll (entryBytes (a .dialect)) (inserted (a .alignment) (map entryIn (got (run (times (a .draft .entries) metadata) (now (a .s)) 1))))) ≤ length (now (a .out))
 all-room c = rw (c .before .if1 .taken) at (c .before .before .before .before .pre .1)
 
 -- the entries that come before it, and those after them
@@ -96,7 +96,7 @@ returns c =
     let w = l .before .before .before .before in
     let a = w .before .before .before .before .before .before .args in
     wrote-as
-    (others w .bytes ∙ ap (λ b. rows (entryBytes (a .dialect)) (entriesWith b (a .alignment) (got (run (times (a .draft .entries) metadata) (now (a .s)) 1)))) (sym (w .before .before .before .if1 .taken)))
+    (others w .bytes ∙ ap (λ b. bytesOfAll (entryBytes (a .dialect)) (entriesWith b (a .alignment) (got (run (times (a .draft .entries) metadata) (now (a .s)) 1)))) (sym (w .before .before .before .if1 .taken)))
     (chain (chain (w .write-entries .ensures .0) (l .write-alignment .ensures .1)) (c .before .before .before .write-entries2 .ensures .0))
 
 write-entries-requires-3 : tie.Need-write-entries-requires-3
@@ -108,7 +108,7 @@ returns-2 : tie.Need-returns-2
 returns-2 c =
     let a = c .before .before .before .before .before .before .before .args in
     wrote-as
-    (ap (λ b. rows (entryBytes (a .dialect)) (entriesWith b (a .alignment) (got (run (times (a .draft .entries) metadata) (now (a .s)) 1)))) (sym (c .before .before .before .before .if1 .left)))
+    (ap (λ b. bytesOfAll (entryBytes (a .dialect)) (entriesWith b (a .alignment) (got (run (times (a .draft .entries) metadata) (now (a .s)) 1)))) (sym (c .before .before .before .before .if1 .left)))
     (c .before .before .write-entries3 .ensures .0)
 
 pub write-metadata-section-spec : {M : Type 1} → statement M

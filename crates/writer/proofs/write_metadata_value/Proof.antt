@@ -8,13 +8,13 @@ use denote.Ref.{now}
 use Rattle.reading.specs.Reading.{run, isAccepted}
 use Rattle.fields.specs.Value.{widthOf}
 use Rattle.scalars.specs.Scalars.{asWidth, scalarWidth}
-use Rattle.values.specs.Contents.{saidBytes}
+use Rattle.values.specs.Contents.{valueBytes}
 use Rattle.values.specs.Format.{depth}
-use Rattle.plan.specs.Header.{heard}
+use Rattle.plan.specs.Header.{contentRead}
 use Rattle.sheet.specs.Format.{array, item, value}
-use Rattle.sheet.proofs.Items.{has-width, value-scalar, value-array}
-use Rattle.writer.proofs.Rows.{wrote-as}
-use Rattle.writer.proofs.Said.{step-there, ScalarSaid, scalar-said, ValueText, value-said}
+use Rattle.sheet.proofs.SheetItems.{has-width, value-scalar, value-array}
+use Rattle.writer.proofs.RowsWritten.{wrote-as}
+use Rattle.writer.proofs.ValuesWritten.{step-there, ScalarSaid, scalar-said, ValueText, value-said}
 use Rattle.writer.proofs.write_metadata_value.Statement.{statement}
 use Rattle.writer.proofs.write_metadata_value.Tie as tie
 
@@ -63,12 +63,12 @@ write-array-payload-requires c κs =
     let u = c .before .before .before .before .before .before .before in
     let a = u .args in
     let e = arrays (c .before) in
-    (ap isAccepted (sym e) ∙ step-there (run (value (a .end) (a .form)) (now (a .s)) (a .at)) (u .pre .0), subst (λ r. length (saidBytes (suc depth) (a .dialect) (heard r)) ≤ length (now (a .out))) e (u .pre .1))
+    (ap isAccepted (sym e) ∙ step-there (run (value (a .end) (a .form)) (now (a .s)) (a .at)) (u .pre .0), subst (λ r. length (valueBytes (suc depth) (a .dialect) (contentRead r)) ≤ length (now (a .out))) e (u .pre .1))
 
 returns : tie.Need-returns
 returns c =
     let a = c .before .before .before .before .before .before .before .before .before .before .args in
-    wrote-as (ap (λ r. saidBytes (suc depth) (a .dialect) (heard r)) (sym (arrays (c .before .before .before .before)))) (c .before .before .write-array-payload .ensures)
+    wrote-as (ap (λ r. valueBytes (suc depth) (a .dialect) (contentRead r)) (sym (arrays (c .before .before .before .before)))) (c .before .before .write-array-payload .ensures)
 
 sub-write-string : tie.Need-sub-write-string
 sub-write-string c = texts (c .before) .low

@@ -7,7 +7,7 @@ use Rattle.values.specs.declared.Dialect.{Dialect}
 use Rattle.tensors.specs.declared.Shape.{Shape}
 use Rattle.values.specs.Contents.{typeBytes}
 use Rattle.tensors.specs.Contents.{lengthBytes, shapeBytes}
-use Rattle.writer.proofs.Rows.{wrote-as}
+use Rattle.writer.proofs.RowsWritten.{wrote-as}
 use borrow.Author.Needs.{needs}
 use Rattle.writer.proofs.write_shape.Statement.{statement}
 use Rattle.writer.proofs.write_shape.Tie as tie

@@ -6,16 +6,16 @@ use mathlib.Core.Path.{sym, _∙_}
 use native.Mathlib.Omega.{arith}
 use denote.Ref.{now}
 use lib.ListN.{length, length-take, length-drop}
-use Rattle.reading.specs.Back.{got, rows}
+use Rattle.reading.specs.Back.{got, bytesOfAll}
 use Rattle.reading.specs.Each.{times}
 use Rattle.reading.specs.Reading.{run}
 use Rattle.layout.specs.Layout.{nothingLaid}
 use Rattle.values.specs.Format.{sizeWidth}
 use Rattle.values.specs.Contents.{insideOf}
 use Rattle.tensors.specs.Contents.{tensorBytes}
-use Rattle.sheet.specs.Format.{Drawn, tensor}
+use Rattle.sheet.specs.Format.{SheetTensor, tensor}
 use Rattle.sheet.proofs.Steps.{Shows, tensor-no, tensor-yes}
-use Rattle.plan.specs.Header.{weightsFrom}
+use Rattle.plan.specs.Header.{laidFrom}
 use Rattle.writer.specs.Output.{shapeSize}
 use Rattle.writer.proofs.Tensors.{Going, going-start, going-none, going-end, going-within, never-refused, going-room, going-on}
 use Rattle.writer.proofs.write_tensor_info_section.Statement.{statement}
@@ -23,7 +23,7 @@ use Rattle.writer.proofs.write_tensor_info_section.Tie as tie
 
 abbrev Inv-loop : tie.InvT-loop
 Inv-loop out₀ s first m alignment dialect from₀ laid₀ done₀ i₀ out from laid done i =
-    Going dialect alignment s m out₀ out done from laid i (rows (tensorBytes dialect) (weightsFrom alignment nothingLaid (got (run (times m tensor) s first))))
+    Going dialect alignment s m out₀ out done from laid i (bytesOfAll (tensorBytes dialect) (laidFrom alignment nothingLaid (got (run (times m tensor) s first))))
 
 abbrev μ-loop : tie.MeasureT-loop
 μ-loop out₀ s first m alignment dialect from₀ laid₀ done₀ i₀ out from laid done i = m - i
@@ -31,7 +31,7 @@ abbrev μ-loop : tie.MeasureT-loop
 -- the tensor that stands next
 found : (c : tie.After-parts Inv-loop μ-loop) →
     let a = c .before .before .before .before .before .before .before .args in
-    Shows (λ (t : Drawn). t .parts) (c .parts .given .0 .0) (c .parts .given .0 .1 .0) (run tensor (now (a .s)) (c .before .before .before .before .loop .from))
+    Shows (λ (t : SheetTensor). t .parts) (c .parts .given .0 .0) (c .parts .given .0 .1 .0) (run tensor (now (a .s)) (c .before .before .before .before .loop .from))
 found c =
     let a = c .before .before .before .before .before .before .before .args in
     tensor-yes (run tensor (now (a .s)) (c .before .before .before .before .loop .from)) (sym (c .parts .given .1) ∙ c .before .before .tensor-at .ensures)

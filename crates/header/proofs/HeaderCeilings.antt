@@ -1,0 +1,53 @@
+-- A reader with ceilings answers what the reader of the whole format does, up to the first version or kind above them. Assumes nothing.
+use Prim.Native.Nat.{ℕ, _≤_}
+use mathlib.Core.Path.{_≡_, sym, ap, _∙_}
+use mathlib.Core.List.{List}
+use native.Mathlib.Omega.{arith}
+use lib.ListN.{length}
+use lib.Dec.{leb}
+use Rattle.reading.specs.Ceilings.{marks, orTooNew, Low, full}
+use Rattle.reading.specs.Each.{fold}
+use Rattle.reading.specs.Reading.{Reading, accepted, run}
+use Rattle.reading.proofs.CeilingLaws.{ceilings, let-through, low-run, low-bind, low-done, low-here, low-checked, low-each}
+use Rattle.kinds.specs.Shape.{greatest}
+use Rattle.header.specs.Answers.{readerRun}
+use Rattle.values.proofs.ValueMarks.{low-entry}
+use Rattle.tensors.proofs.TensorMarks.{low-tensor}
+use Rattle.layout.specs.Padding.{padded}
+use Rattle.header.specs.Format.{latest, FullHeader, header}
+use Rattle.start.specs.declared.Rooms.{Rooms}
+use Rattle.reading.specs.declared.Limits.{Limits}
+use Rattle.start.proofs.StartMarks.{low-start}
+
+module _ (l : Limits) (versions : 3 ≤ l .versions) (kinds : 39 ≤ l .kinds) where
+  pub low-header : (rooms : Rooms) (cap : ℕ) → Low l (header rooms cap)
+  unfolding header
+  low-header rooms cap =
+      low-bind l _ _ (low-start l versions rooms) (λ c. low-bind l _ _ (low-each l _ _ (λ z. low-entry l (c .dialect) cap) (c .entries) tt) (λ es.
+      low-bind l _ _ (low-each l _ _ (low-tensor l kinds (c .dialect)) (c .tensors) 0) (λ ts. low-bind l _ _ (low-here l) (λ e.
+      low-checked l (leb (padded (fold latest 32 es) e) greatest) 18 e _ (λ h. low-done l _)))))
+
+-- the program of a reader with these tables
+abbrev pub tabled : ℕ → List (List ℕ) → List (List ℕ) → Reading FullHeader
+tabled cap es ts = header (record { entries = length es; tensors = length ts }) cap
+
+module _ (cap : ℕ) (es ts : List (List ℕ)) (s : List ℕ) where
+  -- with any ceilings the reader refuses at the first version or kind above them, if there is one, and else answers what the format's own program does
+  pub up-to-ceilings : (l : Limits) → readerRun l cap es ts s ≡ orTooNew l (marks (tabled cap es ts) s 0) (run (tabled cap es ts) s 0)
+  up-to-ceilings l = ceilings l (tabled cap es ts) s 0
+
+  -- ceilings that no version and no kind of the format is above change nothing
+  pub no-ceilings : (l : Limits) → 3 ≤ l .versions → 39 ≤ l .kinds → readerRun l cap es ts s ≡ run (tabled cap es ts) s 0
+  no-ceilings l v k = low-run l (tabled cap es ts) (low-header l v k _ cap) s 0
+
+  -- so the full reader answers what the format's own program does
+  pub full-reader : readerRun full cap es ts s ≡ run (tabled cap es ts) s 0
+  full-reader = no-ceilings full (omega arith) (omega arith)
+
+  -- and a reader with any ceilings what the full reader does, up to the first version or kind above them
+  pub below-ceilings : (l : Limits) → readerRun l cap es ts s ≡ orTooNew l (marks (tabled cap es ts) s 0) (readerRun full cap es ts s)
+  below-ceilings l = up-to-ceilings l ∙ ap (orTooNew l (marks (tabled cap es ts) s 0)) (sym full-reader)
+
+  -- what it accepts, the full reader accepts
+  pub accepted-below : (l : Limits) {w : FullHeader} {q : ℕ} → accepted w q ≡ readerRun l cap es ts s → accepted w q ≡ readerRun full cap es ts s
+  accepted-below l e = let-through l (marks (tabled cap es ts) s 0) _ (e ∙ below-ceilings l)

@@ -1,0 +1,170 @@
+-- A turn of a repetition, whatever is read, whatever goes through it, and whatever a row is. Assumes nothing.
+use Prim.Native.Nat.{ℕ, zero, suc, _+_, _-_, _≤_, _<_}
+use mathlib.Core.Path.{_≡_, refl, sym, ap, _∙_}
+use mathlib.Core.List.{List, [], _∷_, _++_, map, append-assoc}
+use mathlib.Core.Bool.{true, false}
+use native.Mathlib.Omega.{arith}
+use native.Mathlib.Numerals.{add-one}
+use lib.ListN.{length, take, drop, set, take-append-drop}
+use lib.Seq.{drop-drop, take-suc-set, drop-set-lt}
+use lib.Dec.{T}
+use Rattle.reading.specs.Back.{got, bytesOfAll}
+use Rattle.reading.specs.Each.{each, times, fold, filled}
+use Rattle.reading.specs.Reading.{Reading, done, Answer, accepted, refused, run, _>>=_, andThen, seen, passed, isAccepted}
+use Rattle.reading.proofs.RunLaws.{run-bind, goes-on, stops}
+
+then-cons : {A : Type 0} (m : Reading (List A)) (a : A) (s : List ℕ) (at : ℕ) → run (m >>= (λ l. done (a ∷ l))) s at ≡ andThen (run m s at) (λ l p. accepted (a ∷ l) p)
+unfolding run
+then-cons m a s at = run-bind m (λ l. done (a ∷ l)) s at
+
+seen-cons : {S A : Type 0} (f : S → A → S) (z : S) (a : A) (r : Answer (List A)) → seen (fold f z) (andThen r (λ l p. accepted (a ∷ l) p)) ≡ seen (fold f (f z a)) r
+unfolding andThen seen
+seen-cons f z a (accepted l p) = refl
+seen-cons f z a (refused n p) = refl
+
+passed-cons : {A : Type 0} (a : A) (r : Answer (List A)) → passed (andThen r (λ l p. accepted (a ∷ l) p)) ≡ passed r
+unfolding andThen seen
+passed-cons a (accepted l p) = refl
+passed-cons a (refused n p) = refl
+
+accepted-then : {A : Type 0} (a : A) (r : Answer (List A)) → isAccepted (andThen r (λ l p. accepted (a ∷ l) p)) ≡ true → isAccepted r ≡ true
+unfolding andThen
+accepted-then a (accepted l p) h = h
+accepted-then a (refused n p) h = h
+
+got-cons : {A : Type 0} (a : A) (r : Answer (List A)) → isAccepted (andThen r (λ l p. accepted (a ∷ l) p)) ≡ true → got (andThen r (λ l p. accepted (a ∷ l) p)) ≡ a ∷ got r
+unfolding andThen
+got-cons a (accepted l p) h = refl
+got-cons a (refused n p) h = let z : _≡_ {A = ℕ} 0 1 = cc in absurd (omega arith)
+
+-- a row that is stored, and the rows that are left
+row-cons : {B : Type 0} (bytesOfAll : List B) (i : ℕ) (b : B) (bs : List B) (k : ℕ) → i < length bytesOfAll
+    → take i bytesOfAll ++ ((b ∷ bs) ++ drop (suc k) (drop i bytesOfAll)) ≡ take (i + 1) (set bytesOfAll i b) ++ (bs ++ drop k (drop (i + 1) (set bytesOfAll i b)))
+row-cons bytesOfAll i b bs k h =
+    let e : i + suc k ≡ suc i + k = omega arith in
+    rw (add-one, take-suc-set bytesOfAll i b h, drop-set-lt (suc i) bytesOfAll i b (omega arith), drop-drop, drop-drop, e, append-assoc)
+
+filled-cons : {A B : Type 0} (row : A → B) (bytesOfAll : List B) (i : ℕ) (a : A) (r : Answer (List A)) → i < length bytesOfAll → isAccepted (andThen r (λ l p. accepted (a ∷ l) p)) ≡ true
+    → take i bytesOfAll ++ filled row (drop i bytesOfAll) (andThen r (λ l p. accepted (a ∷ l) p)) ≡ take (i + 1) (set bytesOfAll i (row a)) ++ filled row (drop (i + 1) (set bytesOfAll i (row a))) r
+unfolding andThen
+filled-cons row bytesOfAll i a (accepted l p) b h = row-cons bytesOfAll i (row a) (map row l) (length l) b
+filled-cons row bytesOfAll i a (refused n p) b h = let z : _≡_ {A = ℕ} 0 1 = cc in absurd (omega arith)
+
+-- a turn, as a loop has it that counts i up to n, with the state z
+module _ {S A : Type 0} (m : S → Reading A) (f : S → A → S) (s : List ℕ) (at n i : ℕ) (z : S) where
+  pub each-ends : n ≤ i → run (each m f (n - i) z) s at ≡ accepted [] at
+  unfolding run each
+  each-ends h = let k : n - i ≡ 0 = omega arith in rw k
+
+  pub each-stops : i < n → {w p : ℕ} → refused w p ≡ run (m z) s at → run (each m f (n - i) z) s at ≡ refused w p
+  unfolding each
+  each-stops h e = let k : n - i ≡ suc (n - (i + 1)) = omega arith in rw k (stops (m z) _ s at e)
+
+  pub each-more : i < n → {a : A} {q : ℕ} → accepted a q ≡ run (m z) s at → run (each m f (n - i) z) s at ≡ andThen (run (each m f (n - (i + 1)) (f z a)) s q) (λ l p. accepted (a ∷ l) p)
+  unfolding each
+  each-more h {a} {q} e =
+      let k : n - i ≡ suc (n - (i + 1)) = omega arith in
+      rw k (goes-on (m z) _ s at e ∙ then-cons (each m f (n - (i + 1)) (f z a)) a s q)
+
+  -- what is folded, which may be the state or anything else
+  pub each-seen : i < n → {a : A} {q : ℕ} → accepted a q ≡ run (m z) s at → {T : Type 0} (g : T → A → T) (y : T) → seen (fold g y) (run (each m f (n - i) z) s at) ≡ seen (fold g (g y a)) (run (each m f (n - (i + 1)) (f z a)) s q)
+  each-seen h {a} {q} e g y = ap (seen (fold g y)) (each-more h e) ∙ seen-cons g y a (run (each m f (n - (i + 1)) (f z a)) s q)
+
+  -- where only the place is kept
+  pub each-passed : i < n → {a : A} {q : ℕ} → accepted a q ≡ run (m z) s at → passed (run (each m f (n - i) z) s at) ≡ passed (run (each m f (n - (i + 1)) (f z a)) s q)
+  each-passed h {a} {q} e = ap passed (each-more h e) ∙ passed-cons a (run (each m f (n - (i + 1)) (f z a)) s q)
+
+  -- where all are there no turn is refused, and after the last the table is whole
+  pub each-never : i < n → {w p : ℕ} → refused w p ≡ run (m z) s at → isAccepted (run (each m f (n - i) z) s at) ≡ true → ⊥
+  each-never below e all =
+      let g : false ≡ true = sym (ap isAccepted (each-stops below e)) ∙ all in
+      let o : _≡_ {A = ℕ} 0 1 = cc in
+      omega arith
+
+  pub each-last : {B : Type 0} (row : A → B) (bytesOfAll : List B) → n ≤ i → take i bytesOfAll ++ filled row (drop i bytesOfAll) (run (each m f (n - i) z) s at) ≡ bytesOfAll
+  each-last row bytesOfAll h = ap (λ r. take i bytesOfAll ++ filled row (drop i bytesOfAll) r) (each-ends h) ∙ take-append-drop i bytesOfAll
+
+  pub each-accepted : i < n → {a : A} {q : ℕ} → accepted a q ≡ run (m z) s at → isAccepted (run (each m f (n - i) z) s at) ≡ true → isAccepted (run (each m f (n - (i + 1)) (f z a)) s q) ≡ true
+  each-accepted below {a} e all = accepted-then a _ (rw (each-more below e) at all)
+
+  pub each-filled : i < n → {a : A} {q : ℕ} → accepted a q ≡ run (m z) s at → isAccepted (run (each m f (n - i) z) s at) ≡ true → {B : Type 0} (row : A → B) (bytesOfAll : List B) → i < length bytesOfAll
+      → take i bytesOfAll ++ filled row (drop i bytesOfAll) (run (each m f (n - i) z) s at) ≡ take (i + 1) (set bytesOfAll i (row a)) ++ filled row (drop (i + 1) (set bytesOfAll i (row a))) (run (each m f (n - (i + 1)) (f z a)) s q)
+  each-filled below {a} e all row bytesOfAll b =
+      ap (λ r. take i bytesOfAll ++ filled row (drop i bytesOfAll) r) (each-more below e) ∙ filled-cons row bytesOfAll i a _ b (rw (each-more below e) at all)
+
+-- the same where there is no state
+module _ {A : Type 0} (m : Reading A) (s : List ℕ) (at n i : ℕ) where
+  pub times-ends : n ≤ i → run (times (n - i) m) s at ≡ accepted [] at
+  times-ends = each-ends {S = Unit {0}} (λ z. m) (λ z a. z) s at n i tt
+
+  pub times-stops : i < n → {w p : ℕ} → refused w p ≡ run m s at → run (times (n - i) m) s at ≡ refused w p
+  times-stops = each-stops {S = Unit {0}} (λ z. m) (λ z a. z) s at n i tt
+
+  pub times-seen : i < n → {a : A} {q : ℕ} → accepted a q ≡ run m s at → {T : Type 0} (g : T → A → T) (y : T) → seen (fold g y) (run (times (n - i) m) s at) ≡ seen (fold g (g y a)) (run (times (n - (i + 1)) m) s q)
+  times-seen = each-seen {S = Unit {0}} (λ z. m) (λ z a. z) s at n i tt
+
+  pub times-passed : i < n → {a : A} {q : ℕ} → accepted a q ≡ run m s at → passed (run (times (n - i) m) s at) ≡ passed (run (times (n - (i + 1)) m) s q)
+  times-passed = each-passed {S = Unit {0}} (λ z. m) (λ z a. z) s at n i tt
+
+  pub times-never : i < n → {w p : ℕ} → refused w p ≡ run m s at → isAccepted (run (times (n - i) m) s at) ≡ true → ⊥
+  times-never = each-never {S = Unit {0}} (λ z. m) (λ z a. z) s at n i tt
+
+  pub times-last : {B : Type 0} (row : A → B) (bytesOfAll : List B) → n ≤ i → take i bytesOfAll ++ filled row (drop i bytesOfAll) (run (times (n - i) m) s at) ≡ bytesOfAll
+  times-last = each-last {S = Unit {0}} (λ z. m) (λ z a. z) s at n i tt
+
+  pub times-accepted : i < n → {a : A} {q : ℕ} → accepted a q ≡ run m s at → isAccepted (run (times (n - i) m) s at) ≡ true → isAccepted (run (times (n - (i + 1)) m) s q) ≡ true
+  times-accepted = each-accepted {S = Unit {0}} (λ z. m) (λ z a. z) s at n i tt
+
+  -- the first of those that are left, and the others
+  pub times-got : i < n → {a : A} {q : ℕ} → accepted a q ≡ run m s at → isAccepted (run (times (n - i) m) s at) ≡ true → got (run (times (n - i) m) s at) ≡ a ∷ got (run (times (n - (i + 1)) m) s q)
+  times-got below {a} {q} e all =
+      let t = each-more {S = Unit {0}} (λ z. m) (λ z a. z) s at n i tt below e in
+      ap got t ∙ got-cons a (run (times (n - (i + 1)) m) s q) (rw t at all)
+
+  pub times-filled : i < n → {a : A} {q : ℕ} → accepted a q ≡ run m s at → isAccepted (run (times (n - i) m) s at) ≡ true → {B : Type 0} (row : A → B) (bytesOfAll : List B) → i < length bytesOfAll
+      → take i bytesOfAll ++ filled row (drop i bytesOfAll) (run (times (n - i) m) s at) ≡ take (i + 1) (set bytesOfAll i (row a)) ++ filled row (drop (i + 1) (set bytesOfAll i (row a))) (run (times (n - (i + 1)) m) s q)
+  times-filled = each-filled {S = Unit {0}} (λ z. m) (λ z a. z) s at n i tt
+
+-- back from what is seen of an answer
+seen-parts : {A B : Type 0} (g : A → B) (r : Answer A) {b : B} {q : ℕ} → accepted b q ≡ seen g r → (a : A) × (accepted a q ≡ r) × (b ≡ g a)
+unfolding seen
+seen-parts g (accepted a p) {b} {q} e = let k : q ≡ p = cc in (a, ap (accepted a) k, cc)
+seen-parts g (refused n p) e = let z : _≡_ {A = ℕ} 0 1 = cc in absurd (omega arith)
+
+seen-none : {A B : Type 0} (g : A → B) (r : Answer A) {n p : ℕ} → refused n p ≡ seen g r → refused n p ≡ r
+unfolding seen
+seen-none g (accepted a q) e = let z : _≡_ {A = ℕ} 0 1 = cc in absurd (omega arith)
+seen-none g (refused n p) e = cc
+
+-- a turn of a repetition of which only the place is kept: from what is kept of one item
+module _ {A : Type 0} (m : Reading A) (s : List ℕ) (at n i : ℕ) (below : i < n) where
+  pub passed-on : {q : ℕ} → accepted tt q ≡ passed (run m s at) → passed (run (times (n - i) m) s at) ≡ passed (run (times (n - (i + 1)) m) s q)
+  passed-on e = let r = seen-parts (λ a. tt) (run m s at) e in times-passed m s at n i below (r .1)
+
+  pub passed-not : {w p : ℕ} → refused w p ≡ passed (run m s at) → passed (run (times (n - i) m) s at) ≡ refused w p
+  unfolding seen
+  passed-not e = ap passed (times-stops m s at n i below (seen-none (λ a. tt) (run m s at) e))
+
+module _ {A B : Type 0} (g : A → B) (m : Reading A) (s : List ℕ) (at : ℕ) where
+  pub seen-accepted : {b : B} {q : ℕ} → accepted b q ≡ seen g (run m s at) → (a : A) × (accepted a q ≡ run m s at) × (b ≡ g a)
+  seen-accepted e = seen-parts g (run m s at) e
+
+  pub seen-refused : {n p : ℕ} → refused n p ≡ seen g (run m s at) → refused n p ≡ run m s at
+  seen-refused e = seen-none g (run m s at) e
+
+-- two programs of which the same is kept, and what is kept of them so many times
+module _ {A B : Type 0} (m : Reading A) (k : Reading B) (s : List ℕ) (alike : (p : ℕ) → passed (run m s p) ≡ passed (run k s p)) where
+  alike-turn : (n at : ℕ) → ((q : ℕ) → passed (run (times n m) s q) ≡ passed (run (times n k) s q)) → (r : Answer (Unit {0})) → r ≡ passed (run m s at)
+      → passed (run (times (suc n) m) s at) ≡ passed (run (times (suc n) k) s at)
+  alike-turn n at rest (accepted tt q) e =
+      let all : suc n - 0 ≡ suc n = omega arith in
+      let less : suc n - (0 + 1) ≡ n = omega arith in
+      rw (all, less) at (passed-on m s at (suc n) 0 (omega arith) e) ∙ rest q ∙ sym (rw (all, less) at (passed-on k s at (suc n) 0 (omega arith) (e ∙ alike at)))
+  alike-turn n at rest (refused w p) e =
+      let all : suc n - 0 ≡ suc n = omega arith in
+      rw all at (passed-not m s at (suc n) 0 (omega arith) e) ∙ sym (rw all at (passed-not k s at (suc n) 0 (omega arith) (e ∙ alike at)))
+
+  pub times-alike : (n at : ℕ) → passed (run (times n m) s at) ≡ passed (run (times n k) s at)
+  unfolding each run seen
+  times-alike zero at = refl
+  times-alike (suc n) at = alike-turn n at (times-alike n) (passed (run m s at)) refl

@@ -1,0 +1,70 @@
+-- The exported functions that take no rows never return 6, the number of 'more records than rows'. Assumes nothing.
+use Prim.Native.Nat.{ℕ}
+use mathlib.Core.Path.{_≡_, refl, sym, ap, _∙_}
+use mathlib.Core.List.{List}
+use native.Mathlib.Omega.{arith}
+use lib.ListN.{getD}
+use Rattle.reading.specs.Back.{All}
+use Rattle.fields.specs.Bytes.{Byte}
+use Rattle.reading.specs.Reading.{Answer, accepted, refused}
+use Rattle.reading.specs.declared.Limits.{Limits}
+use Rattle.reading.proofs.Repetition.{seen-refused}
+use Rattle.lookup.specs.declared.FileKind.{FileKind}
+use Rattle.lookup.specs.declared.FileKind.the-variants.{Number, Unknown}
+use Rattle.values.specs.declared.Value.{Value}
+use Rattle.values.specs.declared.Value.the-variants.{Single, Text, Array}
+use Rattle.header.specs.declared.Header.{Header}
+use Rattle.header.proofs.NeverSix.{never-6}
+use Rattle.lookup.specs.Questions.{lookup, typeStatus, valueFileType, tellType, fileTypeIn}
+use Rattle.lookup.specs.declared.Lookup.{Lookup}
+use Rattle.lookup.specs.declared.Lookup.the-variants.{Found, Absent, Refused}
+use Rattle.lookup.proofs.LookupNeverSix.{lookup-never-6}
+use Rattle.words.specs.Words.{measured, numberOf, entryNumber, stringNumber, typeNumber}
+
+-- `sp_measure`
+pub measured-never-6 : (limits : Limits) (s : List ℕ) → All Byte s → numberOf (measured limits s) ≡ 6 → ⊥
+measured-never-6 limits s bytes e = by (measured limits s) refl e
+  where
+    by : (r : Answer Header) → r ≡ measured limits s → numberOf r ≡ 6 → ⊥
+    by (accepted h q) f e = omega arith
+    by (refused n p) f e = never-6 limits 3 s bytes (sym (seen-refused _ _ _ _ (ap (λ m. refused m p) (sym e) ∙ f)))
+
+module _ (key s : List ℕ) (bytes : All Byte s) where
+  not-six : {n p : ℕ} → Refused n p ≡ lookup key s → n ≡ 6 → ⊥
+  not-six {p = p} f e = lookup-never-6 key s bytes (sym f ∙ ap (λ m. Refused m p) e)
+
+  -- `sp_find`
+  pub entry-never-6 : entryNumber (lookup key s) ≡ 6 → ⊥
+  entry-never-6 e = by (lookup key s) refl e
+    where
+      by : (l : Lookup) → l ≡ lookup key s → entryNumber l ≡ 6 → ⊥
+      by (Found x) f e = omega arith
+      by Absent f e = omega arith
+      by (Refused n p) f e = not-six f e
+
+  -- `sp_find_string`, and `sp_model_family` with its key
+  pub string-never-6 : stringNumber (lookup key s) ≡ 6 → ⊥
+  string-never-6 e = by (lookup key s) refl e
+    where
+      told : (v : Value) → getD (typeStatus v) 0 0 ≡ 6 → ⊥
+      told (Single x) e = omega arith
+      told (Text a) e = omega arith
+      told (Array a) e = omega arith
+
+      by : (l : Lookup) → l ≡ lookup key s → stringNumber l ≡ 6 → ⊥
+      by (Found x) f e = told (x .value) e
+      by Absent f e = omega arith
+      by (Refused n p) f e = not-six f e
+
+  -- `sp_file_type`, with its key
+  pub type-never-6 : typeNumber (fileTypeIn (lookup key s)) ≡ 6 → ⊥
+  type-never-6 e = by (lookup key s) refl e
+    where
+      told : (k : FileKind) → typeNumber (tellType k) ≡ 6 → ⊥
+      told (Number n) e = omega arith
+      told Unknown e = omega arith
+
+      by : (l : Lookup) → l ≡ lookup key s → typeNumber (fileTypeIn l) ≡ 6 → ⊥
+      by (Found x) f e = told (valueFileType (x .value)) e
+      by Absent f e = omega arith
+      by (Refused n p) f e = not-six f e
