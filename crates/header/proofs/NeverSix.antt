@@ -19,6 +19,7 @@ use Rattle.layout.specs.Padding.{padded}
 use Rattle.values.specs.Format.{sizeWidth}
 use Rattle.values.specs.declared.Dialect.{Dialect}
 use Rattle.values.proofs.ValuesFit.{sure-size}
+use Rattle.start.specs.Format.{enough}
 use Rattle.header.specs.Format.{latest, header}
 use Rattle.start.specs.declared.Rooms.{Rooms}
 use Rattle.header.proofs.NeverRefused.{Never, never-then, never-done, never-here, never-check, never-entries, never-tensors, never-start, not-new}
@@ -31,18 +32,14 @@ size-fits k n h = by (eqb (k .version) 1) h
     by true h = omega arith
     by false h = omega arith
 
--- rows for any count
-abbrev any : Rooms
-any = record { entries = greatest; tensors = greatest }
-
-never-rows : (cap : ℕ) (s : List ℕ) → All Byte s → Never 6 s (header any cap)
+never-rows : (cap : ℕ) (s : List ℕ) → All Byte s → Never 6 s (header enough cap)
 unfolding header
 never-rows cap s bytes =
-    never-then (never-start refl any (λ six k p. sure-so (sure-size k s bytes p) (λ n q h. (size-fits k n h, size-fits k n h)))) (λ c.
+    never-then (never-start refl enough (λ six k p. sure-so (sure-size k s bytes p) (λ n q h. (size-fits k n h, size-fits k n h)))) (λ c.
     never-then (never-entries refl (c .dialect) cap (c .entries)) (λ es. never-then (never-tensors refl (c .dialect) (c .tensors)) (λ ts.
     never-then never-here (λ e. never-then (never-check (leb (padded (fold latest 32 es) e) greatest) 18 e (λ f i. omega arith)) (λ u. never-done)))))
 
 -- nor does a reader with any ceilings refuse bytes for that
-pub never-6 : (limits : Limits) (cap : ℕ) (s : List ℕ) → All Byte s → {p : ℕ} → run (under limits (header (record { entries = greatest; tensors = greatest }) cap)) s 0 ≡ refused 6 p → ⊥
+pub never-6 : (limits : Limits) (cap : ℕ) (s : List ℕ) → All Byte s → {p : ℕ} → run (under limits (header enough cap)) s 0 ≡ refused 6 p → ⊥
 never-6 limits cap s bytes e =
     never-rows cap s bytes .never 0 (not-new limits (marks (header _ cap) s 0) _ (λ i. omega arith) (λ i. omega arith) (sym e ∙ ceilings limits (header _ cap) s 0))

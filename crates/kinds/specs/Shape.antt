@@ -1,5 +1,5 @@
 -- The product of a shape's lengths, and the bytes of a tensor of that shape and a kind. Each number must fit 64 bits.
-use Prim.Native.Nat.{ℕ, _*_, _/_}
+use Prim.Native.Nat.{ℕ, _*_, _/_, _^_, _-_}
 use mathlib.Core.Bool.{Bool, true, false}
 use mathlib.Core.List.{List, [], _∷_}
 use lib.Dec.{leb}
@@ -12,7 +12,7 @@ use Rattle.kinds.specs.Table.{blockOf, knownKind}
 
 -- the greatest number of 64 bits
 abbrev pub greatest : ℕ
-greatest = 18446744073709551615
+greatest = 2 ^ 64 - 1
 
 -- x times each length, from the left
 abbrev pub productFrom : ℕ → List ℕ → ℕ

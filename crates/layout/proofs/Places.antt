@@ -1,4 +1,5 @@
 -- What is answered of a tensor's place as its tests go, one after the other. Assumes nothing.
+use Rattle.reading.specs.Choice.{require}
 use Prim.Native.Nat.{ℕ, suc, _+_, _≤_, _<_}
 use mathlib.Core.Path.{_≡_, refl}
 use mathlib.Core.Bool.{Bool, true, false}
@@ -12,7 +13,7 @@ use Rattle.kinds.specs.declared.Bounded.the-variants.{Fits, Over}
 use Rattle.kinds.proofs.Products.{answered, refused}
 use Rattle.kinds.proofs.Answers.{Sized, Unsized, no-product, no-size}
 use Rattle.layout.specs.Padding.{padded, paddedOf}
-use Rattle.layout.specs.Layout.{endAfter, laidAfter, require, placeOf, Piece, laidOut, refusedAt, ahead, layoutFrom}
+use Rattle.layout.specs.Layout.{endAfter, laidAfter, placeOf, Piece, laidOut, refusedAt, ahead, layoutFrom}
 use Rattle.layout.specs.declared.Laid.{Laid}
 use Rattle.layout.specs.declared.Placed.{Placed}
 use Rattle.layout.specs.declared.Placed.the-variants.{At, Refused}
@@ -85,7 +86,7 @@ pub record PlacedBy (a : ℕ) (laid : Laid) (x : List ℕ) (k o s : ℕ) (after 
   pub bytes : s ≡ sizeOf x k
   pub then : after ≡ laidAfter a laid x k
 
-passed : (t : Bool) (w : ℕ) (rest : Placed) {o s : ℕ} {after : Laid} → require t w rest ≡ At o s after → (t ≡ true) × (rest ≡ At o s after)
+passed : (t : Bool) (w : ℕ) (rest : Placed) {o s : ℕ} {after : Laid} → require t (Refused w) rest ≡ At o s after → (t ≡ true) × (rest ≡ At o s after)
 passed true w rest e = (refl, e)
 passed false w rest e = let z : _≡_ {A = ℕ} 0 1 = cc in absurd (omega arith)
 

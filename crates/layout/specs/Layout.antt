@@ -4,7 +4,7 @@ use Prim.Native.Nat.{ℕ, suc, _+_}
 use mathlib.Core.Bool.{Bool}
 use mathlib.Core.List.{List, [], _∷_}
 use lib.Dec.{leb}
-use Rattle.reading.specs.Choice.{if_then_else_}
+use Rattle.reading.specs.Choice.{if_then_else_, require}
 use Rattle.kinds.specs.Table.{writtenKind}
 use Rattle.kinds.specs.Shape.{greatest, productOf, productsFit, sizeFits, sizeOf}
 use Rattle.layout.specs.Padding.{padded}
@@ -24,19 +24,15 @@ endAfter laid shape kind = laid .next + sizeOf shape kind
 abbrev pub laidAfter : ℕ → Laid → List ℕ → ℕ → Laid
 laidAfter a laid shape kind = record { total = laid .total + productOf shape; next = padded a (endAfter laid shape kind) }
 
--- the refusal where a test fails
-abbrev pub require : Bool → ℕ → Placed → Placed
-require test why rest = if test then rest else Refused why
-
 -- the place of the next tensor, at the alignment a, of a shape and a kind: the tests in their order, and what is laid then
 unfoldable pub placeOf : ℕ → Laid → List ℕ → ℕ → Placed
 placeOf a laid shape kind =
-    require (writtenKind kind) 35
-    (require (productsFit shape) 13
-    (require (sizeFits shape kind) 14
-    (require (leb (laid .total + productOf shape) greatest) 15
-    (require (leb (endAfter laid shape kind) greatest) 36
-    (require (leb (padded a (endAfter laid shape kind)) greatest) 36
+    require (writtenKind kind) (Refused 35)
+    (require (productsFit shape) (Refused 13)
+    (require (sizeFits shape kind) (Refused 14)
+    (require (leb (laid .total + productOf shape) greatest) (Refused 15)
+    (require (leb (endAfter laid shape kind) greatest) (Refused 36)
+    (require (leb (padded a (endAfter laid shape kind)) greatest) (Refused 36)
     (At (laid .next) (sizeOf shape kind) (laidAfter a laid shape kind)))))))
 
 -- a tensor that is to be laid

@@ -1,4 +1,5 @@
--- The rows that a header counts are those of its records, and the text of them is its listing. Assumes nothing.
+-- The rows that a header counts are those of its records, and the text of them is its listing.
+-- Assumes nothing.
 use Prim.Native.Nat.{ℕ, _-_, _≤_}
 use mathlib.Core.Path.{_≡_, refl, sym, ap, subst, _∙_}
 use mathlib.Core.List.{List, _++_, map}
@@ -8,7 +9,7 @@ use lib.Seq.{take-at}
 use borrow.Rule.Slice.PartMut.{midOf}
 use Rattle.reading.specs.Each.{filled}
 use Rattle.reading.specs.Reading.{accepted, refused, seen}
-use Rattle.reading.proofs.Repetition.{seen-accepted, seen-refused}
+use Rattle.reading.proofs.Turns.{seen-accepted, seen-refused}
 use Rattle.values.specs.Rows.{entryRow}
 use Rattle.tensors.specs.Rows.{tensorRow}
 use Rattle.reading.specs.Ceilings.{full}

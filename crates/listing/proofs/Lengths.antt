@@ -9,15 +9,14 @@ use lib.Seq.{take-all}
 use borrow.Author.Tests.{lt-ltb}
 use Rattle.reading.specs.Back.{bytesOfAll}
 use Rattle.reading.specs.Choice.{if_then_else_}
-use Rattle.listing.specs.Text.{decimal, labelled, furtherText, lengthsText, lengthsIn}
+use Rattle.text_out.specs.Words.{labelled}
+use Rattle.listing.specs.Text.{space, furtherText, lengthsText}
+use Rattle.listing.specs.Steps.{firstText, furtherOf, planeText}
+use Rattle.rows.specs.Columns.{word, dimensionsIn, lengthsIn}
 
 module _ (p q r t : ℕ) where
   abbrev stated : ℕ → List ℕ
-  stated d =
-      (if ltb 0 d then decimal p else (45 ∷ []))
-      ++ (if ltb 1 d then labelled (120 ∷ []) q else [])
-      ++ (if ltb 2 d then labelled (120 ∷ []) r else [])
-      ++ (if ltb 3 d then labelled (120 ∷ []) t else [])
+  stated d = firstText d p ++ furtherOf 1 d q ++ furtherOf 2 d r ++ furtherOf 3 d t
 
   split : (d : ℕ) → stated d ≡ lengthsText (take d (p ∷ q ∷ r ∷ t ∷ []))
   unfolding lengthsText furtherText bytesOfAll
@@ -31,5 +30,7 @@ module _ (p q r t : ℕ) where
       rw (lt-ltb 0 n (omega arith), lt-ltb 1 n (omega arith), lt-ltb 2 n (omega arith), lt-ltb 3 n (omega arith)) (simp (append-assoc, append-nil) refl) in
       four ∙ ap lengthsText (sym (take-all n (p ∷ q ∷ r ∷ t ∷ []) (omega arith)))
 
-pub lengths-split : (row : List ℕ) → stated (getD row 4 0) (getD row 5 0) (getD row 6 0) (getD row 7 0) (getD row 3 0) ≡ lengthsText (lengthsIn row)
-lengths-split row = split (getD row 4 0) (getD row 5 0) (getD row 6 0) (getD row 7 0) (getD row 3 0)
+-- the lengths of a row are the first two, and the other two where they are stated
+pub lengths-split : (row : List ℕ) → planeText row ++ furtherOf 2 (dimensionsIn row) (word 6 row) ++ furtherOf 3 (dimensionsIn row) (word 7 row) ≡ lengthsText (lengthsIn row)
+unfolding planeText
+lengths-split row = split (word 4 row) (word 5 row) (word 6 row) (word 7 row) (dimensionsIn row)

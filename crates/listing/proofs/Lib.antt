@@ -1,9 +1,3 @@
-pub mod Put
-pub mod Digits
 pub mod Lengths
-pub mod Next
-pub mod Writing
 pub mod Counted
-pub mod Keys
-pub mod Ordered
 pub mod Examples

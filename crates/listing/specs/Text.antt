@@ -1,12 +1,11 @@
--- The text of a listing, as bytes: a line for the header, one for each distinct key in byte order, one for each tensor; or one for a refusal.
-use Prim.Native.Nat.{ℕ, zero, suc, _+_, _/_, _%_, _≤_}
+-- The text of a listing, as bytes: a line for the header, one for each distinct key in byte order,
+-- one for each tensor; or one for a refusal.
+use Prim.Native.Nat.{ℕ}
 use mathlib.Core.Bool.{Bool}
 use mathlib.Core.List.{List, [], _∷_, _++_, map}
-use lib.Dec.{ltb}
-use lib.ListN.{length, take, getD}
+use lib.ListN.{take, getD}
 use Rattle.reading.specs.Choice.{if_then_else_}
 use Rattle.reading.specs.Back.{bytesOfAll}
-use Rattle.fields.specs.Bytes.{Wrote}
 use Rattle.reading.specs.Ceilings.{under, full}
 use Rattle.reading.specs.Reading.{Answer, accepted, refused, run}
 use Rattle.values.specs.Rows.{entryRow}
@@ -14,43 +13,26 @@ use Rattle.tensors.specs.Rows.{tensorRow}
 use Rattle.header.specs.declared.Header.{Header}
 use Rattle.start.specs.declared.Rooms.{Rooms}
 use Rattle.header.specs.Format.{FullHeader, header}
-use Rattle.listing.specs.Order.{nameIn, ordered}
-
--- a writer put a text at the front of its output, n bytes of it: all, or as many as there was room for; the output after them is as it was
-pub record Put (text old out : List ℕ) (n : ℕ) : Type 0 where
-  pub inside : n ≤ length out
-  pub wrote : Wrote (take (length old) text) old out n
-
--- the last digits of a number in decimal, at most so many, with no zero in front
-unfoldable pub digits : ℕ → ℕ → List ℕ
-digits zero n = []
-digits (suc most) n = (if ltb n 10 then [] else digits most (n / 10)) ++ ((48 + n % 10) ∷ [])
-
--- a number in decimal: 20 digits are enough for 64 bits
-unfoldable pub decimal : ℕ → List ℕ
-decimal n = digits 20 n
-
--- a word, and a number right after it
-unfoldable pub labelled : List ℕ → ℕ → List ℕ
-labelled word n = word ++ decimal n
+use Rattle.text_out.specs.Words.{labelled, lineEnd}
+use Rattle.key_order.specs.Order.{nameIn, ordered}
+use Rattle.rows.specs.Columns.{typeIn, kindIn, lengthsIn, offsetIn, sizeIn}
 
 -- " "
 abbrev pub space : List ℕ
 space = 32 ∷ []
 
--- the end of a line
-abbrev pub newline : List ℕ
-newline = 10 ∷ []
-
 -- " BE" where the big end comes first, and else " LE"
 abbrev pub orderWord : Bool → List ℕ
 orderWord big = if big then 32 ∷ 66 ∷ 69 ∷ [] else 32 ∷ 76 ∷ 69 ∷ []
 
--- "gguf v", the version, the byte order, " kv ", the entries' count, " tensors ", the tensors' count
+-- "gguf v", the version, the byte order
+unfoldable pub versionText : Header → List ℕ
+versionText h = labelled (103 ∷ 103 ∷ 117 ∷ 102 ∷ 32 ∷ 118 ∷ []) (h .version) ++ orderWord (h .big)
+
+-- all that, " kv ", the entries' count, " tensors ", the tensors' count
 unfoldable pub formatText : Header → List ℕ
 formatText h =
-    labelled (103 ∷ 103 ∷ 117 ∷ 102 ∷ 32 ∷ 118 ∷ []) (h .version)
-    ++ orderWord (h .big)
+    versionText h
     ++ labelled (32 ∷ 107 ∷ 118 ∷ 32 ∷ []) (h .entries)
     ++ labelled (32 ∷ 116 ∷ 101 ∷ 110 ∷ 115 ∷ 111 ∷ 114 ∷ 115 ∷ 32 ∷ []) (h .tensors)
 
@@ -59,37 +41,32 @@ unfoldable pub headLine : Header → List ℕ
 headLine h =
     formatText h
     ++ labelled (32 ∷ 97 ∷ 108 ∷ 105 ∷ 103 ∷ 110 ∷ 32 ∷ []) (h .alignment)
-    ++ labelled (32 ∷ 100 ∷ 97 ∷ 116 ∷ 97 ∷ 32 ∷ []) (h .start)
-    ++ newline
+    ++ lineEnd (32 ∷ 100 ∷ 97 ∷ 116 ∷ 97 ∷ 32 ∷ []) (h .start)
 
 -- the line of a key: "key ", the key, the type
 unfoldable pub keyLine : List ℕ → List ℕ → List ℕ
-keyLine s row = (107 ∷ 101 ∷ 121 ∷ 32 ∷ []) ++ nameIn s row ++ labelled space (getD row 2 0) ++ newline
+keyLine s row = (107 ∷ 101 ∷ 121 ∷ 32 ∷ []) ++ nameIn s row ++ lineEnd space (typeIn row)
 
 -- further lengths, each after an "x"
 unfoldable pub furtherText : List ℕ → List ℕ
 furtherText lengths = bytesOfAll (labelled (120 ∷ [])) lengths
 
--- lengths joined by "x", and "-" where there are none
+-- a space, and the lengths joined by "x", or "-" where there are none
 unfoldable pub lengthsText : List ℕ → List ℕ
-lengthsText [] = 45 ∷ []
-lengthsText (n ∷ more) = decimal n ++ furtherText more
-
--- the lengths of a tensor row: as many of the four as are stated
-abbrev pub lengthsIn : List ℕ → List ℕ
-lengthsIn row = take (getD row 3 0) (getD row 4 0 ∷ getD row 5 0 ∷ getD row 6 0 ∷ getD row 7 0 ∷ [])
+lengthsText [] = 32 ∷ 45 ∷ []
+lengthsText (n ∷ more) = labelled space n ++ furtherText more
 
 -- a tensor's name, kind and lengths
 unfoldable pub shapeText : List ℕ → List ℕ → List ℕ
-shapeText s row = nameIn s row ++ labelled space (getD row 2 0) ++ space ++ lengthsText (lengthsIn row)
+shapeText s row = nameIn s row ++ labelled space (kindIn row) ++ lengthsText (lengthsIn row)
 
 -- the line of a tensor: all that, its offset, its size
 unfoldable pub tensorLine : List ℕ → List ℕ → List ℕ
-tensorLine s row = shapeText s row ++ labelled space (getD row 8 0) ++ labelled space (getD row 9 0) ++ newline
+tensorLine s row = shapeText s row ++ labelled space (offsetIn row) ++ lineEnd space (sizeIn row)
 
 -- the line of a refusal: "refused ", its number, its place
 unfoldable pub refusalLine : ℕ → ℕ → List ℕ
-refusalLine n p = labelled (114 ∷ 101 ∷ 102 ∷ 117 ∷ 115 ∷ 101 ∷ 100 ∷ 32 ∷ []) n ++ labelled space p ++ newline
+refusalLine n p = labelled (114 ∷ 101 ∷ 102 ∷ 117 ∷ 115 ∷ 101 ∷ 100 ∷ 32 ∷ []) n ++ lineEnd space p
 
 -- all lines of a header: the first, one for each distinct key in byte order, one for each tensor
 unfoldable pub linesOf : List ℕ → Header → List (List ℕ) → List (List ℕ) → List ℕ
@@ -100,7 +77,8 @@ unfoldable pub textOf : List ℕ → Answer FullHeader → List ℕ
 textOf s (accepted w q) = linesOf s (w .head) (map entryRow (w .entries)) (map tensorRow (w .tensors))
 textOf s (refused n p) = refusalLine n p
 
--- the listing of a prefix by a reader with so many rows, and else with nothing above its ceilings and a cap of 3
+-- the listing of a prefix by a reader with so many rows, and else with nothing above its ceilings
+-- and a cap of 3
 unfoldable pub listingIn : Rooms → List ℕ → List ℕ
 listingIn rooms s = textOf s (run (under full (header rooms 3)) s 0)
 

@@ -5,7 +5,6 @@ use Rattle.reading.specs.Choice.{if_then_else_}
 use Rattle.reading.specs.Reading.{Answer, accepted, refused, run, seen}
 use Rattle.reading.specs.Each.{fold}
 use Rattle.reading.specs.Ceilings.{under, full}
-use Rattle.kinds.specs.Shape.{greatest}
 use lib.Dec.{leb}
 use Rattle.scalars.specs.Scalars.{naturalOf}
 use Rattle.scalars.specs.declared.Natural.{Natural}
@@ -15,7 +14,7 @@ use Rattle.values.specs.declared.Value.the-variants.{Single, Text, Array}
 use Rattle.values.specs.declared.Entry.{Entry}
 use Rattle.values.specs.Format.{isWord}
 use Rattle.values.specs.Contents.{bytesAt, insideOf}
-use Rattle.start.specs.declared.Rooms.{Rooms}
+use Rattle.start.specs.Format.{enough}
 use Rattle.header.specs.Format.{header}
 use Rattle.lookup.specs.declared.Sought.{Sought}
 use Rattle.lookup.specs.declared.Sought.the-variants.{Present, Missing}
@@ -23,10 +22,6 @@ use Rattle.lookup.specs.declared.Lookup.{Lookup}
 use Rattle.lookup.specs.declared.Lookup.the-variants.{Found, Absent, Refused}
 use Rattle.lookup.specs.declared.FileTypeRead.{FileTypeRead}
 use Rattle.lookup.specs.declared.FileTypeRead.the-variants.{Known, Unknown as NotKnown, Refused as NotRead}
-
--- rows for any count, so that none is refused for want of rows
-abbrev pub enough : Rooms
-enough = record { entries = greatest; tensors = greatest }
 
 -- what is found of a key, after one entry more
 abbrev pub sought : List ℕ → List ℕ → Sought → Entry → Sought

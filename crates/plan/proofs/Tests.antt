@@ -6,7 +6,7 @@ use mathlib.Core.List.{List, map}
 use native.Mathlib.Omega.{arith}
 use lib.ListN.{length}
 use borrow.Author.Tests.{eq-eqb, ne-eqb, le-leb, lt-leb}
-use Rattle.reading.specs.Choice.{if_then_else_}
+use Rattle.reading.specs.Choice.{if_then_else_, require}
 use Rattle.reading.specs.Reading.{Answer, accepted, refused, isAccepted}
 use Rattle.layout.specs.Layout.{layoutOf}
 use Rattle.values.specs.declared.Dialect.{Dialect}
@@ -18,7 +18,8 @@ use Rattle.plan.specs.declared.LaidOut.the-variants.{Fits, Refused as No
 use Rattle.plan.specs.declared.Planned.{Planned}
 use Rattle.plan.specs.declared.Planned.the-variants.{Refused}
 use Rattle.plan.specs.Header.{ownAlignment, adds, entriesOf, pieceOf, recordsIn}
-use Rattle.plan.specs.Plan.{requireFormed, isAlignment, canAdd, agrees, laidOf, requireLaid, require, countsFit, draftWith, draftOf, planFor}
+use Rattle.plan.specs.Plan.{requireFormed, canAdd, agrees, laidOf, requireLaid, countsFit, draftWith, draftOf, planFor}
+use Rattle.header.specs.Format.{isAlignment}
 use Rattle.plan.specs.Steps.{roomed, laid, aligned}
 use Rattle.plan.proofs.Drafts.{entries-count}
 

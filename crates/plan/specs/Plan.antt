@@ -12,11 +12,12 @@ use mathlib.Core.Bool.{Bool, true, false}
 use mathlib.Core.List.{List, map}
 use lib.Dec.{leb, eqb}
 use lib.ListN.{length}
-use Rattle.reading.specs.Choice.{if_then_else_}
+use Rattle.reading.specs.Choice.{if_then_else_, require}
 use Rattle.reading.specs.Reading.{Answer, accepted, refused}
 use Rattle.layout.specs.Layout.{Layout, laidOut, refusedAt, layoutOf}
 use Rattle.values.specs.declared.Dialect.{Dialect}
 use Rattle.start.specs.Format.{knownVersion}
+use Rattle.header.specs.Format.{isAlignment}
 use Rattle.sheet.specs.Sheet.{Records, sheetOf}
 use Rattle.plan.specs.declared.OwnAlignment.{OwnAlignment}
 use Rattle.plan.specs.declared.OwnAlignment.the-variants.{Own, Absent}
@@ -28,19 +29,11 @@ use Rattle.plan.specs.declared.LaidOut.{LaidOut}
 use Rattle.plan.specs.declared.LaidOut.the-variants.{Fits, Refused as NotLaid}
 use Rattle.plan.specs.Header.{ownAlignment, adds, entriesOf, pieceOf, endOf, startOf}
 
--- what follows a test where it holds, and else the refusal
-abbrev pub require : {A : Type 0} → Bool → A → A → A
-require test refusal rest = if test then rest else refusal
-
 -- what follows of the records of a sheet that is well formed, and else the refusal, at its first
 -- bad entry
 abbrev pub requireFormed : Answer Records → ℕ → (Records → Planned) → Planned
 requireFormed (accepted c e) why rest = rest c
 requireFormed (refused n p) why rest = Refused why p
-
--- above 0, and a multiple of 8
-abbrev pub isAlignment : ℕ → Bool
-isAlignment a = if eqb a 0 then false else eqb (a % 8) 0
 
 -- an alignment that is added is a u32
 abbrev pub canAdd : ℕ → OwnAlignment → Bool

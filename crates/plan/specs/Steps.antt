@@ -4,7 +4,7 @@ use Prim.Native.Nat.{ℕ, _-_}
 use mathlib.Core.List.{map}
 use lib.Dec.{leb}
 use lib.ListN.{length}
-use Rattle.reading.specs.Choice.{if_then_else_}
+use Rattle.reading.specs.Choice.{if_then_else_, require}
 use Rattle.layout.specs.Layout.{layoutOf}
 use Rattle.values.specs.declared.Dialect.{Dialect}
 use Rattle.sheet.specs.Sheet.{Records}
@@ -13,7 +13,8 @@ use Rattle.plan.specs.declared.Planned.the-variants.{Fine, Refused}
 use Rattle.plan.specs.declared.Room.{Room}
 use Rattle.plan.specs.declared.Room.the-variants.{Left, Over}
 use Rattle.plan.specs.Header.{ownAlignment, entriesOf, pieceOf, startOf}
-use Rattle.plan.specs.Plan.{require, isAlignment, canAdd, agrees, laidOf, requireLaid, countsFit, planOf}
+use Rattle.plan.specs.Plan.{canAdd, agrees, laidOf, requireLaid, countsFit, planOf}
+use Rattle.header.specs.Format.{isAlignment}
 
 -- the test of the room
 abbrev pub roomed : Dialect → ℕ → ℕ → Records → Planned

@@ -73,16 +73,6 @@ pub enum Room {
     Over,
 }
 
-// Whether a text is "general.alignment".
-fn is_alignment(text: &[u8]) -> bool
-    ensures { λ r. ⌜ r ≡ isWord alignmentKey (now (text .entry)) ⌝ }
-{
-    if text.len() != 17 {
-        return false;
-    }
-    values::begins_at(text, 0, b"general.alignment")
-}
-
 // The alignment that a value gives a reader. It is of the type form and ends at end.
 fn value_alignment(s: &[u8], at: usize, end: usize, form: u64) -> u64
     requires { ⌜ isAccepted (run (format.value end form) (now s) at) ≡ true ⌝ }
@@ -111,7 +101,7 @@ fn own_alignment(s: &[u8], n: usize) -> OwnAlignment
         let entry = sheet::known_entry(s, from);
         let parts = entry.parts;
         let key = parts.key;
-        if is_alignment(values::inside(s, key)) {
+        if values::is_alignment_key(values::inside(s, key)) {
             said = OwnAlignment::Own {
                 alignment: value_alignment(s, parts.value, entry.next, parts.form),
             };

@@ -13,13 +13,13 @@ use Rattle.reading.specs.Each.{fold}
 use Rattle.fields.specs.Order.{before}
 use Rattle.values.specs.Format.{isWord, alignmentKey}
 use Rattle.values.specs.Contents.{aScalar}
-use Rattle.header.specs.Format.{usable}
+use Rattle.header.specs.Format.{usable, isAlignment}
 use Rattle.header.specs.Contents.{contentAlignment, latestContent, alignmentIn}
 use Rattle.sheet.specs.Format.{SheetEntry}
 use Rattle.plan.specs.declared.OwnAlignment.{OwnAlignment}
 use Rattle.plan.specs.declared.OwnAlignment.the-variants.{Own, Absent}
 use Rattle.plan.specs.Header.{ownAlignmentWith, ownAlignment, adds, alignmentEntry, inserted, entryIn, entriesWith, entriesOf}
-use Rattle.plan.specs.Plan.{isAlignment, canAdd, agrees}
+use Rattle.plan.specs.Plan.{canAdd, agrees}
 
 -- the alignment that is said, or x where none is
 abbrev orElse : ℕ → OwnAlignment → ℕ

@@ -22,7 +22,8 @@ use Rattle.sheet.specs.Format.{SheetTensor}
 use Rattle.sheet.specs.Sheet.{Records, sheetOf}
 use Rattle.plan.specs.declared.LaidOut.the-variants.{Fits}
 use Rattle.plan.specs.Header.{pieceOf, laidWith, laidFrom, recordsIn}
-use Rattle.plan.specs.Plan.{isAlignment, laidOf}
+use Rattle.plan.specs.Plan.{laidOf}
+use Rattle.header.specs.Format.{isAlignment}
 use Rattle.writer.specs.declared.HeaderWritten.the-variants.{Written}
 use Rattle.writer.proofs.Planned.{PlannedBy, planned-by}
 use Rattle.promises.specs.Back.{answerFor, piecesIn, offsetsIn}

@@ -8,7 +8,7 @@ use native.Mathlib.Nat.{add-assoc, add-zero, suc-mul}
 use lib.ListN.{length, take, drop, length-append}
 use lib.Seq.{drop-drop, take-add, take-take, take-at, drop-at}
 use borrow.Author.Tests.{le-leb}
-use Rattle.reading.specs.Back.{Stands, same, Back, got, itemsAt, Along, All, onlyIf, bytesOfAll}
+use Rattle.reading.specs.Back.{Stands, same, Back, got, itemsAt, Along, All, bytesOfAll}
 use Rattle.reading.specs.Each.{each, times}
 use Rattle.reading.specs.Reading.{Which, Reading, done, field, known, Answer, accepted, refused, run, _>>=_, _>>_, here, check, andThen, seen}
 use Rattle.reading.proofs.RunLaws.{run-bind, inside}
@@ -177,16 +177,6 @@ seen-cases (refused n p) e = let w : _≡_ {A = ℕ} 0 1 = cc in absurd (omega a
 pub shown : {A C : Type 0} {s : List ℕ} {view : A → C} {m : Reading A} {p : ℕ} {l : List ℕ} {c : C} → Back s view m p l c → Stands s p l
     → (a : A) × (run m s p ≡ accepted a (p + length l)) × (view a ≡ c)
 shown {s = s} {m = m} {p} b h = seen-cases (run m s p) (b .reads h)
-
--- a last test, of what is shown and of the place
-pub judged : {A C : Type 0} {view : A → C} {c : C} {q : ℕ} (test : A → ℕ → Bool) (n : ℕ) (r : Answer A) → seen view r ≡ accepted c q → ((a : A) → view a ≡ c → test a q ≡ true)
-    → seen view (onlyIf test n r) ≡ accepted c q
-unfolding seen onlyIf
-judged {view = view} {c} {q} test n (accepted a p) e holds =
-    let i : view a ≡ c = cc in
-    let j : p ≡ q = cc in
-    rw (j, holds a i, i)
-judged test n (refused m p) e holds = let w : _≡_ {A = ℕ} 0 1 = cc in absurd (omega arith)
 
 -- what a view shows of what was read, as a further view shows it
 pub then-shown : {A C D : Type 0} {s : List ℕ} {view : A → C} {m : Reading A} {p : ℕ} {l : List ℕ} {c : C} (g : C → D) → Back s view m p l c → Back s (λ a. g (view a)) m p l (g c)

@@ -44,11 +44,6 @@ All P cs = Along {S = Unit {0}} (λ z. P) (λ z c. z) tt cs
 pub record Sure {A : Type 0} (s : List ℕ) (m : Reading A) (p : ℕ) (P : A → ℕ → Type 0) : Type 0 where
   pub holds : (a : A) (q : ℕ) → accepted a q ≡ run m s p → P a q
 
--- an answer that stays where a test of it holds, and else is refusal n at the place after it
-unfoldable pub onlyIf : {A : Type 0} → (A → ℕ → Bool) → ℕ → Answer A → Answer A
-onlyIf test n (accepted a q) = if test a q then accepted a q else refused n q
-onlyIf test n (refused m p) = refused m p
-
 -- records in a row
 unfoldable pub bytesOfAll : {C : Type 0} → (C → List ℕ) → List C → List ℕ
 bytesOfAll enc [] = []

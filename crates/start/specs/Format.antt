@@ -12,6 +12,7 @@ use Rattle.reading.specs.Choice.{if_then_else_}
 use Rattle.reading.specs.Reading.{aVersion, Reading, done, refuse, _>>=_, _>>_, here, check, mark}
 use Rattle.fields.specs.Value.{number}
 use Rattle.values.specs.declared.Dialect.{Dialect}
+use Rattle.kinds.specs.Shape.{greatest}
 use Rattle.values.specs.Format.{size}
 use Rattle.start.specs.declared.Rooms.{Rooms}
 use Rattle.start.specs.declared.Start.{Start}
@@ -50,6 +51,10 @@ version big = do
   check (knownVersion v) 4 p
   mark aVersion v p
   done (record { version = v; big = big })
+
+-- rows for any count that 64 bits hold, so that none is refused because there are too few
+abbrev pub enough : Rooms
+enough = record { entries = greatest; tensors = greatest }
 
 -- the two counts, where there are rows for as many
 unfoldable pub counts : Rooms → Dialect → Reading Start

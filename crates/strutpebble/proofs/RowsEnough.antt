@@ -34,7 +34,7 @@ use Rattle.header.proofs.DataStart.{kept-alignment}
 use Rattle.start.proofs.StartMarks.{under-counts}
 use Rattle.start.proofs.RowsForCounts.{Room}
 use Rattle.header.proofs.Stages.{Started, Aligned, Ended, no-entries, no-tensors, no-data, reached}
-use Rattle.lookup.specs.Questions.{enough}
+use Rattle.start.specs.Format.{enough}
 use Rattle.words.specs.Words.{measured}
 
 -- an entry, of which the cap decides what is kept

@@ -1,4 +1,5 @@
 -- Sizes and texts: where they end, what is looked at of them, and how a word is compared. Assumes nothing.
+use Rattle.values.specs.Contents.{insideOf}
 use Prim.Native.Nat.{ℕ, zero, suc, _+_, _^_, _≤_, _<_, min}
 use mathlib.Core.Path.{_≡_, refl, sym, ap, _∙_}
 use mathlib.Core.List.{List, [], _∷_}
@@ -8,14 +9,14 @@ use native.Mathlib.Numerals.{add-one}
 use lib.ListN.{drop-of-length-le, length, take, drop, getD, length-drop, length-take}
 use lib.Seq.{drop-cons, length-take-le, take-all}
 use lib.Dec.{leb, eqb}
-use borrow.Author.Tests.{leb-true, leb-false, eq-eqb, ne-eqb}
+use borrow.Author.Tests.{leb-true, leb-false, eq-eqb, ne-eqb, le-leb}
 use Rattle.reading.specs.Back.{same, Sure}
 use Rattle.reading.specs.Choice.{if_then_else_}
 use Rattle.reading.specs.Reading.{Reading, done, place, field, Answer, accepted, refused, run, _>>=_, _>>_, here, check, andThen}
 use Rattle.reading.proofs.RunLaws.{run-bind}
 use Rattle.reading.proofs.SureLaws.{sure-then, sure-here, sure-check, sure-field, whatever}
 use Rattle.fields.proofs.NumberFields.{number-within}
-use Rattle.values.specs.Format.{sizeWidth, size, textLooking, text, begins, isWord}
+use Rattle.values.specs.Format.{sizeWidth, size, textLooking, text, begins, isWord, alignmentKey}
 use Rattle.values.specs.declared.Dialect.{Dialect}
 use Rattle.values.specs.declared.Span.{Span}
 
@@ -134,3 +135,7 @@ module _ (w : List ℕ) (n : ℕ) (s : List ℕ) (a : Span) where
 
   pub same-length : length w < n → a .place + a .len ≤ length s → a .len ≡ length w → isWord w (take n (take (a .len) (drop (a .place) s))) ≡ begins w (drop (a .place) s)
   same-length few there same = rw (first-length there, eq-eqb (min n (a .len)) (length w) (omega arith)) (long-enough (omega arith) (omega arith))
+
+-- of a key that is inside, the first 18 bytes tell whether it is the alignment's
+pub alignment-looked : (s : List ℕ) (a : Span) → a .place + a .len ≤ length s → isWord alignmentKey (insideOf s a) ≡ isWord alignmentKey (take 18 (take (a .len) (drop (a .place) s)))
+alignment-looked s a there = rw (le-leb _ _ there, word-told alignmentKey (take (a .len) (drop (a .place) s)) 18 (omega arith))

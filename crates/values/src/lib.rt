@@ -167,15 +167,13 @@ pub fn inside(s: &[u8], span: Span) -> &[u8]
 }
 
 // Whether a text is "general.alignment".
-fn is_alignment_key(s: &[u8], span: Span) -> bool
-    requires { ⌜ span .place + span .len ≤ length (now s) ⌝ }
-    ensures { λ r. ⌜ r ≡ format.isWord format.alignmentKey (take 18 (take (span .len) (drop (span .place) (now (s .entry))))) ⌝ }
+pub fn is_alignment_key(text: &[u8]) -> bool
+    ensures { λ r. ⌜ r ≡ format.isWord format.alignmentKey (now (text .entry)) ⌝ }
 {
-    if span.len != 17 {
+    if text.len() != 17 {
         return false;
     }
-    let place = span.place;
-    begins_at(s, place, b"general.alignment")
+    begins_at(text, 0, b"general.alignment")
 }
 
 // Whether a text starts with "tokenizer.".
@@ -197,7 +195,7 @@ fn read_key(s: &[u8], at: usize, dialect: Dialect) -> KeyRead
     match read_string(s, at, dialect) {
         TextRead::Refused { why, place } => KeyRead::Refused { why, place },
         TextRead::Found { span, next } => {
-            let is_alignment = is_alignment_key(s, span);
+            let is_alignment = is_alignment_key(inside(s, span));
             let is_tokenizer = is_tokenizer_key(s, span);
             KeyRead::Found {
                 key: Key {

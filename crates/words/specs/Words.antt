@@ -19,7 +19,8 @@ use Rattle.lookup.specs.declared.Lookup.{Lookup}
 use Rattle.lookup.specs.declared.Lookup.the-variants.{Found, Absent, Refused}
 use Rattle.lookup.specs.declared.FileTypeRead.{FileTypeRead}
 use Rattle.lookup.specs.declared.FileTypeRead.the-variants.{Known, Unknown, Refused as NotRead}
-use Rattle.lookup.specs.Questions.{enough, stringStatus}
+use Rattle.lookup.specs.Questions.{stringStatus}
+use Rattle.start.specs.Format.{enough}
 use Rattle.writer.specs.declared.HeaderWritten.{HeaderWritten}
 use Rattle.writer.specs.declared.HeaderWritten.the-variants.{Written, Refused as NotWritten}
 

@@ -9,7 +9,7 @@ use lib.Dec.{leb}
 use lib.ListN.{length, drop, replicate, length-append, length-replicate}
 use Rattle.reading.specs.Back.{got, bytesOfAll}
 use Rattle.fields.specs.Bytes.{Wrote}
-use Rattle.reading.specs.Choice.{if_then_else_}
+use Rattle.reading.specs.Choice.{if_then_else_, require}
 use Rattle.reading.specs.Each.{each, times}
 use Rattle.reading.specs.Reading.{Answer, accepted, refused, run, isAccepted, done, _>>=_}
 use Rattle.reading.proofs.RunLaws.{bind-inv}
@@ -33,7 +33,8 @@ use Rattle.plan.specs.declared.Planned.the-variants.{Fine, Refused}
 use Rattle.plan.specs.declared.LaidOut.{LaidOut}
 use Rattle.plan.specs.declared.LaidOut.the-variants.{Fits, Refused as NotLaid}
 use Rattle.plan.specs.Header.{ownAlignment, inserted, entryIn, entriesWith, entriesOf, pieceOf, laidFrom, laidWith, headerContents, recordsIn, endOf, startOf}
-use Rattle.plan.specs.Plan.{requireFormed, require, requireLaid, isAlignment, canAdd, agrees, laidOf, countsFit, draftOf, planOf, planFor}
+use Rattle.plan.specs.Plan.{requireFormed, requireLaid, canAdd, agrees, laidOf, countsFit, draftOf, planOf, planFor}
+use Rattle.header.specs.Format.{isAlignment}
 use Rattle.plan.specs.Steps.{aligned}
 use Rattle.plan.proofs.Sizes.{start-length}
 use Rattle.plan.proofs.Drafts.{entries-count, padded-not-below}

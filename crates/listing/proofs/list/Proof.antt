@@ -1,11 +1,12 @@
--- `listing::list` meets its contract: the answer and both tables are of one run; the rows up to the counts are the records that were read, and a refusal has its one line. Assumes nothing.
+-- `listing::list` meets its contract: the answer and both tables are of one run; the rows up to the
+-- counts are the records that were read, and a refusal has its one line. Assumes nothing.
 use borrow.Author.Needs.{needs}
 use mathlib.Core.Path.{sym, ap, _∙_}
 use native.Mathlib.Omega.{arith}
 use denote.Ref.{now}
 use Rattle.header.specs.Answers.{asHeader}
 use Rattle.listing.proofs.Counted.{Told, entries-inside, tensors-inside, lines-listed, refusal-listed}
-use Rattle.listing.proofs.Put.{put-same}
+use Rattle.text_out.proofs.Put.{put-same}
 use Rattle.listing.proofs.list.Statement.{statement}
 use Rattle.listing.proofs.list.Tie as tie
 

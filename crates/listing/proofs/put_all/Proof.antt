@@ -1,7 +1,8 @@
--- `listing::put_all` meets its contract: three texts in a row, each put to the rest of the output. Assumes nothing.
+-- `listing::put_all` meets its contract: three texts in a row, each put to the rest of the output.
+-- Assumes nothing.
 use borrow.Author.Needs.{needs}
 use Rattle.listing.specs.Text.{linesOf}
-use Rattle.listing.proofs.Put.{put-chain}
+use Rattle.text_out.proofs.Put.{put-chain}
 use Rattle.listing.proofs.put_all.Statement.{statement}
 use Rattle.listing.proofs.put_all.Tie as tie
 

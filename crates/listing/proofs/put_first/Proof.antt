@@ -1,4 +1,5 @@
--- `listing::put_first` meets its contract: the test of the count chooses between the number and the dash. Assumes nothing.
+-- `listing::put_first` meets its contract: the test of the count chooses between the number and the
+-- dash. Assumes nothing.
 use borrow.Author.Needs.{needs}
 use borrow.Author.Tests.{lt-ltb, le-ltb}
 use native.Mathlib.Omega.{arith}
@@ -6,7 +7,7 @@ use Rattle.listing.proofs.put_first.Statement.{statement}
 use Rattle.listing.proofs.put_first.Tie as tie
 
 returns : tie.Need-returns
-returns c = rw (lt-ltb 0 (c .before .before .before .before .before .before .args .count) (c .before .before .before .before .if1 .taken)) (c .before .before .put-decimal .ensures)
+returns c = let a = c .before .before .before .before .before .before .before .args in rw (lt-ltb 0 (a .count) (omega arith)) (c .before .before .put-labelled .ensures)
 
 returns-2 : tie.Need-returns-2
 returns-2 c = let a = c .before .before .before .before .before .before .before .args in rw (le-ltb 0 (a .count) (omega arith)) (c .before .before .put-text .ensures)
@@ -15,6 +16,7 @@ pub put-first-spec : {M : Type 1} → statement M
 put-first-spec =
     tie.close
     (tie.spec
+    (λ c. search needs)
     (λ c κs. search needs)
     (λ c. search needs)
     (λ c κs. search needs)

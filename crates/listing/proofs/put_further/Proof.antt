@@ -1,8 +1,9 @@
--- `listing::put_further` meets its contract: where the length is not stated, nothing is put. Assumes nothing.
+-- `listing::put_further` meets its contract: where the length is not stated, nothing is put.
+-- Assumes nothing.
 use borrow.Author.Needs.{needs}
 use borrow.Author.Tests.{lt-ltb, le-ltb}
 use native.Mathlib.Omega.{arith}
-use Rattle.listing.proofs.Put.{put-none}
+use Rattle.text_out.proofs.Put.{put-none}
 use Rattle.listing.proofs.put_further.Statement.{statement}
 use Rattle.listing.proofs.put_further.Tie as tie
 

@@ -1,4 +1,6 @@
--- `listing::put_keys` meets its contract. The invariant: what is put, with the lines of the keys that are left, is the whole text. The measure is how many rows may still be given. Assumes nothing.
+-- `listing::put_keys` meets its contract. The invariant: what is put, with the lines of the keys
+-- that are left, is the whole text. The measure is how many rows may still be given. Assumes
+-- nothing.
 use borrow.Author.Needs.{needs}
 use Prim.Native.Nat.{_≤_, _<_}
 use mathlib.Core.Path.{_≡_, sym, _∙_}
@@ -6,12 +8,12 @@ use native.Mathlib.Omega.{arith}
 use denote.Ref.{now}
 use lib.ListN.{length}
 use Rattle.reading.specs.Back.{bytesOfAll}
-use Rattle.listing.specs.Order.{nextKey, orderedAfter, ordered}
+use Rattle.key_order.specs.Order.{nextKey, orderedAfter, ordered}
 use Rattle.listing.specs.Text.{keyLine}
-use Rattle.listing.specs.declared.NextKey.the-variants.{At}
-use Rattle.listing.proofs.Next.{next-inside, ordered-turn, ordered-ends, ordered-none}
-use Rattle.listing.proofs.Put.{put-long}
-use Rattle.listing.proofs.Writing.{Writing, writing-starts, writing-turns, writing-ends, one-line, no-lines}
+use Rattle.key_order.specs.declared.NextKey.the-variants.{At}
+use Rattle.key_order.proofs.Next.{next-inside, ordered-turn, ordered-ends, ordered-none}
+use Rattle.text_out.proofs.Put.{put-long}
+use Rattle.text_out.proofs.Writing.{Writing, writing-starts, writing-turns, writing-ends, one-line, no-lines}
 use Rattle.listing.proofs.put_keys.Statement.{statement}
 use Rattle.listing.proofs.put_keys.Tie as tie
 

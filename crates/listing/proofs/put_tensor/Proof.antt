@@ -1,18 +1,14 @@
--- `listing::put_tensor` meets its contract: four texts in a row, each put to the rest of the output. Assumes nothing.
+-- `listing::put_tensor` meets its contract: three texts in a row, each put to the rest of the
+-- output. Assumes nothing.
 use borrow.Author.Needs.{needs}
 use Rattle.listing.specs.Text.{tensorLine}
-use Rattle.listing.proofs.Put.{put-chain}
+use Rattle.text_out.proofs.Put.{put-chain}
 use Rattle.listing.proofs.put_tensor.Statement.{statement}
 use Rattle.listing.proofs.put_tensor.Tie as tie
 
 returns : tie.Need-returns
 unfolding tensorLine
-returns c =
-    let e = c .before .before in
-    let d = e .before .before .before .before .before in
-    let t = d .before .before .before .before .before in
-    let u = t .before .before .before .before .before in
-    put-chain (put-chain (put-chain (u .put-shape .ensures) (t .put-labelled .ensures)) (d .put-labelled2 .ensures)) (e .put-text .ensures)
+returns c = search put-chain depth 12
 
 pub put-tensor-spec : {M : Type 1} → statement M
 put-tensor-spec =
@@ -26,12 +22,6 @@ put-tensor-spec =
     (λ c. search needs)
     (λ c κs. search needs)
     (λ c. search needs)
-    (λ c. search needs)
-    (λ c. search needs)
-    (λ c. search needs)
-    (λ c. search needs)
-    (λ c. search needs)
-    (λ c κs. search needs)
     (λ c. search needs)
     (λ c. search needs)
     (λ c. search needs)

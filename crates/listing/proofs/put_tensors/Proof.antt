@@ -1,4 +1,5 @@
--- `listing::put_tensors` meets its contract. The invariant: what is put, with the lines of the rows that are left, is the whole text. Assumes nothing.
+-- `listing::put_tensors` meets its contract. The invariant: what is put, with the lines of the rows
+-- that are left, is the whole text. Assumes nothing.
 use borrow.Author.Needs.{needs}
 use Prim.Native.Nat.{_-_, _≤_}
 use native.Mathlib.Omega.{arith}
@@ -6,8 +7,8 @@ use denote.Ref.{now}
 use lib.ListN.{length, drop}
 use Rattle.reading.specs.Back.{bytesOfAll}
 use Rattle.listing.specs.Text.{tensorLine}
-use Rattle.listing.proofs.Put.{put-long}
-use Rattle.listing.proofs.Writing.{Writing, writing-starts, writing-turns, writing-ends, rows-turn, rows-end}
+use Rattle.text_out.proofs.Put.{put-long}
+use Rattle.text_out.proofs.Writing.{Writing, writing-starts, writing-turns, writing-ends, rows-turn, rows-end}
 use Rattle.listing.proofs.put_tensors.Statement.{statement}
 use Rattle.listing.proofs.put_tensors.Tie as tie
 

@@ -11,7 +11,8 @@ use Rattle.header.specs.Answers.{asHeader}
 use Rattle.reading.specs.Ceilings.{full}
 use Rattle.header.specs.Contents.{dialectIn}
 use Rattle.header.proofs.EntriesAgain.{Again, again}
-use Rattle.lookup.specs.Questions.{enough, sought}
+use Rattle.lookup.specs.Questions.{sought}
+use Rattle.start.specs.Format.{enough}
 use Rattle.lookup.specs.declared.Sought.the-variants.{Missing}
 use Rattle.lookup.proofs.find.Statement.{statement}
 use Rattle.lookup.proofs.find.Tie as tie

@@ -40,8 +40,8 @@ loop-again c =
     let t = c .before .before .before .before .before in
     let v = t .before .before .loop in
     let below = t .before .loop-test .taken in
-    let left = v .inv .2 ∙ entry-said _ _ _ _ below (v .inv .1) (t .known-entry .ensures) (v .value) in
-    let same = sym (rw (c .before .before .inside .ensures) at (c .before .is-alignment .ensures)) in (
+    let left = v .inv .2 ∙ entry-said _ _ _ _ below (v .inv .1) (t .known-entry .ensures) (v .said) in
+    let same = sym (rw (c .before .before .inside .ensures) at (c .before .is-alignment-key .ensures)) in (
       omega arith,
       entry-rest _ _ _ _ below (v .inv .1) (t .known-entry .ensures),
       ⊎-elim (λ w. rw (w .2, w .1 .ensures) (rw (same ∙ w .0 .taken) at left)) (λ w. rw (w .1) (rw (same ∙ w .0 .left) at left)) (c .if1 .came),
@@ -50,7 +50,7 @@ loop-again c =
 returns : tie.Need-returns Inv-loop μ-loop
 returns c =
     let v = c .before .loop in
-    sym (v .inv .2 ∙ ap (fold ownAlignmentWith (v .value)) (got-ends _ _ _ _ _ (c .loop-test .left)))
+    sym (v .inv .2 ∙ ap (fold ownAlignmentWith (v .said)) (got-ends _ _ _ _ _ (c .loop-test .left)))
 
 pub own-alignment-spec : {M : Type 1} → statement M
 own-alignment-spec =

@@ -12,7 +12,7 @@ use Rattle.plan.proofs.plan_alignment.Statement.{statement}
 use Rattle.plan.proofs.plan_alignment.Tie as tie
 
 -- what the sheet says
-says : (c : tie.After-said-alignment) → c .own-alignment .result ≡ ownAlignment (recordsIn (sheetOf (now (c .before .before .before .before .args .s))) .entries)
+says : (c : tie.After-own-alignment) → c .own-alignment .result ≡ ownAlignment (recordsIn (sheetOf (now (c .before .before .before .before .args .s))) .entries)
 says c =
     let t = c .before .before .before .before in
     c .own-alignment .ensures ∙ ap ownAlignment (entries-got (now (t .args .s)) (t .pre .0) (t .pre .1))
@@ -35,7 +35,7 @@ returns-3 c =
     let t = c .before .before in
     let y = t .before .before in
     let a = c .before .before .before .before .before .before .before .before .args in
-    other-said (a .dialect) (a .alignment) (a .room) (recordsIn (sheetOf (now (a .s)))) (y .before .before .if1 .left) (y .before .if2 .left) (sym (t .value .given .1) ∙ says y) (c .if3 .taken)
+    other-said (a .dialect) (a .alignment) (a .room) (recordsIn (sheetOf (now (a .s)))) (y .before .before .if1 .left) (y .before .if2 .left) (sym (t .said .given .1) ∙ says y) (c .if3 .taken)
 
 plan-tensors-requires : tie.Need-plan-tensors-requires
 plan-tensors-requires c κs =
@@ -43,7 +43,7 @@ plan-tensors-requires c κs =
     let y = t .before .before in
     let z = c .before .before .before .before .before .before .before .before in
     let a = z .args in
-    (z .pre .0, drafted (a .dialect) (a .alignment) (a .room) (recordsIn (sheetOf (now (a .s)))) (z .pre .1) (said-adds (a .dialect) (a .alignment) (a .room) (recordsIn (sheetOf (now (a .s)))) (sym (t .value .given .1) ∙ says y)))
+    (z .pre .0, drafted (a .dialect) (a .alignment) (a .room) (recordsIn (sheetOf (now (a .s)))) (z .pre .1) (said-adds (a .dialect) (a .alignment) (a .room) (recordsIn (sheetOf (now (a .s)))) (sym (t .said .given .1) ∙ says y)))
 
 plan-tensors-requires-2 : tie.Need-plan-tensors-requires-2
 plan-tensors-requires-2 c κs =
@@ -83,7 +83,7 @@ returns-6 c =
     let t = c .before .before .before in
     let y = t .before .before in
     let a = c .before .before .before .before .before .before .before .before .before .args in
-    c .plan-tensors .ensures ∙ same-said (a .dialect) (a .alignment) (a .room) (recordsIn (sheetOf (now (a .s)))) (y .before .before .if1 .left) (y .before .if2 .left) (sym (t .value .given .1) ∙ says y) (c .before .if3 .left)
+    c .plan-tensors .ensures ∙ same-said (a .dialect) (a .alignment) (a .room) (recordsIn (sheetOf (now (a .s)))) (y .before .before .if1 .left) (y .before .if2 .left) (sym (t .said .given .1) ∙ says y) (c .before .if3 .left)
 
 returns-7 : tie.Need-returns-7
 returns-7 c =

@@ -1,0 +1,25 @@
+-- `listing::put_version` meets its contract: two texts in a row, the second put to the rest of the
+-- output. Assumes nothing.
+use borrow.Author.Needs.{needs}
+use Rattle.listing.specs.Text.{versionText}
+use Rattle.text_out.proofs.Put.{put-chain}
+use Rattle.listing.proofs.put_version.Statement.{statement}
+use Rattle.listing.proofs.put_version.Tie as tie
+
+returns : tie.Need-returns
+unfolding versionText
+returns c = search put-chain depth 12
+
+pub put-version-spec : {M : Type 1} → statement M
+put-version-spec =
+    tie.close
+    (tie.spec
+    (λ c. search needs)
+    (λ c κs. search needs)
+    (λ c. search needs)
+    (λ c. search needs)
+    (λ c. search needs)
+    (λ c κs. search needs)
+    (λ c. search needs)
+    (λ c. search needs)
+    returns)
