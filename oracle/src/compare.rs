@@ -2,6 +2,7 @@
 
 use crate::inputs::WIDTHS;
 use crate::original::*;
+use crate::questions::Asked;
 use serde_json::Value;
 use std::collections::BTreeMap;
 use std::io::Cursor;
@@ -73,7 +74,8 @@ fn theirs(bytes: &[u8], cap: u64) -> Result<(GGUFModel, bool), u64> {
     container.decode().map(|model| (model, big)).map_err(|error| class(&error.to_string()))
 }
 
-fn text(bytes: &[u8], place: u64, len: u64) -> String {
+/// A text where a row, or an answer, says that it is.
+pub fn text(bytes: &[u8], place: u64, len: u64) -> String {
     String::from_utf8_lossy(&bytes[place as usize..(place + len) as usize]).to_string()
 }
 
@@ -132,6 +134,8 @@ pub struct Agreed {
     by_number: BTreeMap<u64, u64>,
     panics: u64,
     no_rows: u64,
+    /// What the questions told of the same inputs.
+    pub asked: Asked,
 }
 
 impl Agreed {
@@ -153,8 +157,12 @@ impl Agreed {
                 assert_eq!(ours.number, number, "refused at {}: {bytes:?}", ours.answer[0]);
                 assert!(ours.entries.iter().all(|row| *row == UNTOUCHED_ENTRY), "rows on a refusal: {bytes:?}");
                 assert!(ours.tensors.iter().all(|row| *row == UNTOUCHED_TENSOR), "rows on a refusal: {bytes:?}");
+                self.asked.on_refusal(bytes, ours.number, ours.answer[0]);
             }
-            Ok(Ok((model, big))) => same_header(&ours, &model, big, bytes),
+            Ok(Ok((model, big))) => {
+                same_header(&ours, &model, big, bytes);
+                self.asked.on(bytes, &model);
+            }
         }
         *self.by_number.entry(ours.number).or_default() += 1;
     }

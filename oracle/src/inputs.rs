@@ -131,27 +131,105 @@ fn tensor(made: &mut Made, random: &mut Random) {
     made.number(8, 8 * random.below(1000));
 }
 
+/// The keys that the questions look up, and keys that are almost those.
+const ARCHITECTURE: &[u8] = b"general.architecture";
+const FILE_TYPE: &[u8] = b"general.file_type";
+const ALMOST: [&[u8]; 6] = [
+    b"general.architectur",
+    b"general.architecture2",
+    b"General.architecture",
+    b"general.file_typ",
+    b"general.file_type\0",
+    b"general.file-type",
+];
+
+/// Numbers that are file types, that are almost, and that are one in fewer bytes.
+const FILE_TYPES: [u64; 44] = [
+    0, 1, 2, 3, 4, 5, 6, 7, 8, 9, 10, 11, 12, 13, 14, 15, 16, 17, 18, 19, 20, 21, 22, 23, 24, 25, 26, 31, 39,
+    127, 128, 255, 256 + 7, 32768, 65535, 65536 + 24, 1 << 31, (1 << 32) - 24, (1 << 32) - 1, (1 << 32) + 5,
+    1 << 63, (1 << 63) + 1, u64::MAX - 23, u64::MAX,
+];
+
+/// An entry of a type, whose value is this number or this text, or an array of one such item.
+fn entry_of(made: &mut Made, key: &[u8], kind: u64, number: u64, text: &[u8]) {
+    made.text(key);
+    made.number(4, kind);
+    match kind {
+        8 => made.text(text),
+        9 => {
+            made.number(4, 4);
+            made.size(1);
+            made.number(4, number);
+        }
+        _ => made.number(WIDTHS[kind as usize], number),
+    }
+}
+
+/// An entry that a question may look up: any type under either key, or under one that is almost it.
+fn asked_entry(made: &mut Made, random: &mut Random) {
+    const TEXTS: [&[u8]; 7] = [b"llama", b"", b"unknown", b"7", b"general.architecture", "é".as_bytes(), b"\xff\xfe"];
+    let key = if random.below(6) == 0 { random.pick(&ALMOST) } else { random.pick(&[ARCHITECTURE, FILE_TYPE]) };
+    let any = random.below(13);
+    let kind = if key == ARCHITECTURE { random.pick(&[8, any]) } else { any };
+    let any = random.next() ^ (random.next() << 40);
+    let listed = random.pick(&FILE_TYPES);
+    let number = random.pick(&[listed, listed, listed, any]);
+    let text = random.pick(&TEXTS);
+    entry_of(made, key, kind, number, text);
+}
+
+/// A header with up to five entries that a question may look up, often with one key twice.
+pub fn asked_header(random: &mut Random) -> Made {
+    with_entries(random, 0, 6, asked_entry)
+}
+
+/// For every version, byte order and type: `general.file_type` with each of the listed numbers, and
+/// `general.architecture`; each behind another entry of its key.
+pub fn every_answer() -> Vec<Made> {
+    let mut all = vec![];
+    for (version, big) in [(1, false), (2, false), (3, false), (1, true), (2, true), (3, true)] {
+        for kind in 0..13 {
+            for (key, numbers) in [(FILE_TYPE, &FILE_TYPES[..]), (ARCHITECTURE, &FILE_TYPES[..1])] {
+                for number in numbers {
+                    let mut made = start(version, big, 0, 2);
+                    entry_of(&mut made, key, (kind + 4) % 13, 3, b"llama");
+                    entry_of(&mut made, key, kind, *number, b"phi");
+                    all.push(made);
+                }
+            }
+        }
+    }
+    all
+}
+
 /// A header with up to five entries.
 pub fn header(random: &mut Random) -> Made {
-    with_entries(random, 0, 6)
+    with_entries(random, 0, 6, entry)
 }
 
 /// A header with some hundred entries: the reader keeps the rows of up to 64 while it tests, and reads more of them twice.
 pub fn long_header(random: &mut Random) -> Made {
-    with_entries(random, 60, 80)
+    with_entries(random, 60, 80, entry)
 }
 
-/// A header of any version and byte order, with up to three tensors, and `least` entries or fewer than `spread` more.
-fn with_entries(random: &mut Random, least: u64, spread: u64) -> Made {
-    let big = random.below(2) == 1;
-    let version = random.pick(&[1, 2, 3, 3]);
+/// The front of a header, up to its first entry.
+fn start(version: u64, big: bool, tensors: u64, entries: u64) -> Made {
     let mut made = Made { bytes: vec![], big, version, fields: vec![(0, 4)] };
     made.bytes.extend_from_slice(if big { b"FUGG" } else { b"GGUF" });
     made.number(4, version);
-    let tensors = random.below(4);
-    let entries = least + random.below(spread);
     made.size(tensors);
     made.size(entries);
+    made
+}
+
+/// A header of any version and byte order, with up to three tensors, and `least` entries or fewer
+/// than `spread` more, each made by `entry`.
+fn with_entries(random: &mut Random, least: u64, spread: u64, entry: fn(&mut Made, &mut Random)) -> Made {
+    let big = random.below(2) == 1;
+    let version = random.pick(&[1, 2, 3, 3]);
+    let tensors = random.below(4);
+    let entries = least + random.below(spread);
+    let mut made = start(version, big, tensors, entries);
     (0..entries).for_each(|_| entry(&mut made, random));
     (0..tensors).for_each(|_| tensor(&mut made, random));
     made

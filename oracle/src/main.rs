@@ -10,36 +10,40 @@ mod writer;
 
 mod compare;
 mod inputs;
+mod questions;
 mod sample;
 mod writers;
 
 // The original's writer names these by its own crate.
 use original::{FILE_MAGIC_GGUF_LE, GGUF_VERSION_V1, GGUF_VERSION_V2, GGUF_VERSION_V3};
 
-
 use compare::Agreed;
-use inputs::{damaged, header, long_header, Random};
+use inputs::{asked_header, damaged, every_answer, header, long_header, Random};
+use questions::Asked;
 
 fn main() {
     let arguments: Vec<String> = std::env::args().skip(1).collect();
-    // The original panics at kind 40; that is expected, and not worth a message each time.
+    // The original panics at kind 40, and at a file type that is no number; each is looked at where
+    // it is caught, and not worth a message.
     std::panic::set_hook(Box::new(|info| {
-        let text = info.to_string();
-        if !text.contains("not a real data format") {
-            eprintln!("{text}");
+        if !info.location().is_some_and(|place| place.file().ends_with("original/src/lib.rs")) {
+            eprintln!("{info}");
         }
     }));
     match &arguments[..] {
         [option, file, scratch] if option == "--sample" => sample::write(file, scratch),
         [headers, sheets, scratch] => {
-            compare_readers(headers.parse().expect("how many headers"));
+            let headers = headers.parse().expect("how many headers");
+            let asked = compare_readers(headers);
+            compare_questions(headers, asked);
             compare_writers(sheets.parse().expect("how many sheets"), scratch);
         }
         _ => eprintln!("oracle: HEADERS SHEETS SCRATCH, or --sample FILE SCRATCH"),
     }
 }
 
-fn compare_readers(headers: u64) {
+/// Holds the readers against each other, and hands on what the questions told of the same inputs.
+fn compare_readers(headers: u64) -> Asked {
     let mut random = Random::new(0x9E37_79B9_7F4A_7C15);
     let mut agreed = Agreed::default();
     // Every input of up to two bytes, and every magic that stands for something.
@@ -75,7 +79,31 @@ fn compare_readers(headers: u64) {
             agreed.on(&bytes, 3);
         }
     }
+    println!("The readers");
     agreed.tell();
+    agreed.asked
+}
+
+/// Holds the questions against each other, also on headers that are made for them. Those have a
+/// seed of their own.
+fn compare_questions(headers: u64, asked: Asked) {
+    let mut random = Random::new(0x00A5_4ED0_FA11_7E57);
+    let mut agreed = Agreed::default();
+    agreed.asked = asked;
+    for made in every_answer() {
+        agreed.on(&made.bytes, 3);
+    }
+    for _ in 0..headers {
+        let made = asked_header(&mut random);
+        agreed.on(&made.bytes, 3);
+        for bytes in damaged(&made, &mut random) {
+            agreed.on(&bytes, 3);
+        }
+    }
+    println!("The readers, on headers that are made for the questions");
+    agreed.tell();
+    println!("The questions, on all of these inputs");
+    agreed.asked.tell();
 }
 
 fn compare_writers(sheets: u64, scratch: &str) {
@@ -87,5 +115,6 @@ fn compare_writers(sheets: u64, scratch: &str) {
     for _ in 0..sheets {
         agreed.on(&writers::Told::new(&mut random), scratch);
     }
+    println!("The writers");
     agreed.tell();
 }
