@@ -1,7 +1,10 @@
-// Lists each file that an argument names, after a line with its name: stored cases of the listing and the text that the format's rules give for them.
+// Lists each file that an argument names, after a line with its name: stored cases of the listing
+// and the text that the format's rules give for them.
 //
-// The files in data/ were made from contents, and `stdout` from the same contents, so that neither is any reader's answer. Each refusal that
-// a listing can give is there. 5 and 12 can't be given, since the ceilings are the whole format's, nor can 18, which no prefix reaches.
+// The files in data/ and the text in `stdout` are made from the same contents by data/make.py, so
+// that neither is any reader's answer (data/README.md). Each refusal that a listing can give is
+// there. 5 and 12 can't be given, since the ceilings are the whole format's, nor can 18, which no
+// prefix reaches.
 use libc::STDOUT_FILENO;
 use rows::ENTRY_WORDS;
 use rows::TENSOR_WORDS;

@@ -1,0 +1,384 @@
+#!/usr/bin/env python3
+"""Writes the cases of the listing: the files beside this program, and ../args and ../stdout.
+
+    crates/listing_cases/data/make.py
+
+A case is told by its contents: a version, a byte order, entries and tensors, and at times what is
+wrong with it. Its file is written from them, and so is the text that a listing of it must be, by
+the rules of the format: README.md says which. No file is read here, and no reader is asked.
+"""
+
+from pathlib import Path
+
+# Types of values, and the bytes of a scalar of each.
+U8, I8, U16, I16, U32, I32, F32, BOOL, STRING, ARRAY, U64, I64, F64 = range(13)
+WIDTHS = {U8: 1, I8: 1, U16: 2, I16: 2, U32: 4, I32: 4, F32: 4, BOOL: 1, U64: 8, I64: 8, F64: 8}
+INTEGERS = {U8, I8, U16, I16, U32, I32, U64, I64}
+
+# The bytes of a block of each kind; a kind that is not here is none.
+TYPE_SIZES = {
+    0: 4, 1: 2, 2: 18, 3: 20, 6: 22, 7: 24, 8: 34, 9: 40, 10: 84, 11: 110, 12: 144, 13: 176,
+    14: 210, 15: 292, 16: 66, 17: 74, 18: 98, 19: 50, 20: 18, 21: 110, 22: 82, 23: 136, 24: 1,
+    25: 2, 26: 4, 27: 8, 28: 8, 29: 56, 30: 2, 31: 0, 32: 0, 33: 0, 34: 54, 35: 66, 36: 0, 37: 0,
+    38: 0, 39: 273,
+}  # fmt: skip
+
+# The largest number of 64 bits, and the longest string.
+GREATEST = 2**64 - 1
+LONGEST = 2**30
+
+
+def block_size(kind):
+    """The numbers in a block of a kind."""
+    return 1 if kind < 2 else 32 if kind < 10 else 256
+
+
+def product(lengths):
+    """The product of lengths, taken from the left; nothing where one on the way passes 64 bits."""
+    result = 1
+    for length in lengths:
+        result *= length
+        if result > GREATEST:
+            return None
+    return result
+
+
+def alignment_of(entries):
+    """The alignment that entries say: the last `general.alignment` where it is usable, else 32."""
+    said = [(kind, value) for key, kind, value in entries if key == b"general.alignment"]
+    if said:
+        kind, value = said[-1]
+        if kind in INTEGERS and value > 0 and value % 8 == 0:
+            return value
+    return 32
+
+
+class File:
+    """A file as it is written, and what is told of it: its contents, or what is wrong with it.
+
+    A function that writes a field answers the field's place.
+    """
+
+    def __init__(self, version=3, big=False):
+        self.version, self.big = version, big
+        self.bytes, self.entries, self.tensors = b"", [], []
+        self.total, self.answer = 0, None
+
+    # Fields
+
+    def raw(self, bytes):
+        place = len(self.bytes)
+        self.bytes += bytes
+        return place
+
+    def number(self, width, value):
+        order = "big" if self.big else "little"
+        return self.raw((value % 2 ** (8 * width)).to_bytes(width, order))
+
+    def size(self, value):
+        return self.number(4 if self.version == 1 else 8, value)
+
+    def string(self, text):
+        """A string. Its place is that of its size."""
+        place = self.size(len(text))
+        self.raw(text)
+        return place
+
+    # What stands in a header
+
+    def start(self, tensors, entries):
+        """The magic, the version and both counts. The places are those of the counts."""
+        self.raw(b"FUGG" if self.big else b"GGUF")
+        self.number(4, self.version)
+        return self.size(tensors), self.size(entries)
+
+    def key_and_type(self, key, kind):
+        """The front of an entry. The place is that of its type."""
+        self.string(key)
+        return self.number(4, kind)
+
+    def item(self, kind, value):
+        return self.string(value) if kind == STRING else self.number(WIDTHS[kind], value)
+
+    def array_start(self, kind, count):
+        """The front of an array. The place is that of its item type."""
+        place = self.number(4, kind)
+        self.size(count)
+        return place
+
+    def entry(self, key, kind, value):
+        """A whole entry. An array's value is its item type and its items."""
+        self.key_and_type(key, kind)
+        if kind == ARRAY:
+            item_type, items = value
+            self.array_start(item_type, len(items))
+            for item in items:
+                self.item(item_type, item)
+        else:
+            self.item(kind, value)
+        self.entries.append((key, kind, value))
+
+    def name_and_dimensions(self, name, dimensions):
+        """The front of a tensor record. The place is that of its dimension count."""
+        self.string(name)
+        return self.number(4, dimensions)
+
+    def tensor(self, name, kind, lengths, offset):
+        """A whole tensor record. Where a rule refuses it, the answer of the file is that."""
+        place = len(self.bytes)
+        self.name_and_dimensions(name, len(lengths))
+        for length in lengths:
+            self.number(8, length)
+        kind_place = self.number(4, kind)
+        self.number(8, offset)
+        numbers = product(lengths)
+        if kind not in TYPE_SIZES:
+            self.refused(11, kind_place)
+        elif numbers is None:
+            self.refused(13, place)
+        elif numbers * TYPE_SIZES[kind] > GREATEST:
+            self.refused(14, place)
+        elif self.total + numbers > GREATEST:
+            self.refused(15, place)
+        else:
+            self.total += numbers
+            size = numbers * TYPE_SIZES[kind] // block_size(kind)
+            self.tensors.append((name, kind, lengths, offset, size))
+
+    # What a listing of it says
+
+    def refused(self, number, place):
+        """The file is refused, unless something before this refused it already."""
+        if self.answer is None:
+            self.answer = b"refused %d %d\n" % (number, place)
+
+    def cut(self, place, left):
+        """Cuts the field at a place, its last so far, to so many bytes: it is not wholly there."""
+        self.bytes = self.bytes[: place + left]
+        self.refused(1, place)
+
+    def missing(self):
+        """Nothing follows, and a field should."""
+        self.refused(1, len(self.bytes))
+
+    def listed(self):
+        """The header ends here: the text of its contents, unless it was refused."""
+        if self.answer is not None:
+            return
+        end, unit = len(self.bytes), alignment_of(self.entries)
+        data = (end + unit - 1) // unit * unit
+        counts = len(self.entries), len(self.tensors)
+        order = b"BE" if self.big else b"LE"
+        first = b"gguf v%d %b kv %d tensors %d align %d data %d\n"
+        self.answer = first % (self.version, order, *counts, unit, data)
+        last = {key: kind for key, kind, value in self.entries}
+        for key in sorted(last):
+            self.answer += b"key %b %d\n" % (key, last[key])
+        for name, kind, lengths, offset, size in self.tensors:
+            shape = b"x".join(b"%d" % length for length in lengths) or b"-"
+            self.answer += b"%b %d %b %d %d\n" % (name, kind, shape, offset, size)
+
+
+# Every case, by its name and in the order in which the program lists them.
+CASES = {}
+
+
+def new(name, version=3, big=False):
+    CASES[name] = File(version, big)
+    return CASES[name]
+
+
+def whole(name, entries=(), tensors=(), version=3, big=False, after=b""):
+    """A header of these contents, with their counts, and bytes after it."""
+    file = new(name, version, big)
+    file.start(len(tensors), len(entries))
+    for entry in entries:
+        file.entry(*entry)
+    for tensor in tensors:
+        file.tensor(*tensor)
+    file.listed()
+    file.raw(after)
+
+
+def front(name, tensors=0, entries=0, version=3):
+    """A file that is going to be wrong after its counts."""
+    file = new(name, version)
+    file.start(tensors, entries)
+    return file
+
+
+A_AND_B = [(b"a", 0, [5], 0), (b"b", 1, [3], 32)]
+
+
+def small_headers():
+    whole("empty_v1", version=1)
+    whole("empty_v2", version=2)
+    whole("empty_v3")
+    whole("empty_big_end", big=True)
+    whole("two_tensors_v1", tensors=A_AND_B, version=1)
+    whole("two_tensors_v2", tensors=A_AND_B, version=2)
+    whole("two_tensors_v3", tensors=A_AND_B)
+    whole("two_tensors_big_end", tensors=A_AND_B, big=True)
+    whole("two_tensors_v1_big_end", tensors=A_AND_B, version=1, big=True)
+    whole("data_after_the_header", tensors=A_AND_B, after=bytes(range(50)))
+
+
+def keys():
+    whole("keys_out_of_order", [
+        (b"b", U32, 1),
+        (b"a", U8, 1),
+        (b"", STRING, b"none"),
+        (b"ab", U16, 3),
+        (b"b", BOOL, 1),
+        (b"B", I32, -1),
+        ("é".encode(), F64, 0),
+        (b"a", U64, 9),
+        (b"a!", I8, -2),
+    ])  # fmt: skip
+    scalars = [(b"same", kind, 0) for kind in WIDTHS]
+    whole("one_key_many_times", [*scalars, (b"same", ARRAY, (U8, []))], version=1)
+
+
+def types():
+    names = [bytes([ord("a") + kind]) for kind in range(13)]
+    values = {STRING: b"text", ARRAY: (U32, [1, 2, 3]), U64: 2**63, I64: -1}
+    whole("every_type", [(names[kind], kind, values.get(kind, 0)) for kind in range(13)])
+    values = {STRING: b"", ARRAY: (U16, [258]), U64: 258, I64: -2, F64: 7}
+    entries = [(names[kind], kind, values.get(kind, 1)) for kind in range(13)]
+    whole("every_type_big_end", entries, big=True)
+    arrays = [(b"arrays.%d" % kind, ARRAY, (kind, [1, 1, 1])) for kind in WIDTHS]
+    arrays.append((b"arrays.8", ARRAY, (STRING, [b"x", b"", b"yz"])))
+    arrays.append((b"arrays.9", ARRAY, (ARRAY, [])))
+    arrays.append((b"tokenizer.list", ARRAY, (STRING, [b"t0", b"t1", b"t2", b"t3", b"t4"])))
+    whole("arrays", arrays, version=2)
+
+
+def alignments():
+    whole("alignment_64", [(b"general.alignment", U32, 64)], A_AND_B)
+    unusable = [(b"general.alignment", U32, 64), (b"general.alignment", U64, 12)]
+    whole("last_alignment_unusable", unusable)
+
+
+def shapes_and_names():
+    whole("shapes", tensors=[
+        (b"none", 0, [], 0),
+        (b"one", 1, [7], 8),
+        (b"two", 2, [32, 3], 64),
+        (b"three", 12, [256, 2, 3], 2**40),
+        (b"four", 30, [2, 3, 4, 5], 96),
+        (b"empty", 0, [0, 2**32, 2**32], 0),
+        (b"ones", 24, [1, 1, 1, 1], 0),
+        (b"largest", 0, [2**62 - 1], GREATEST),
+    ])  # fmt: skip
+    whole("every_kind", tensors=[(b"k%d" % kind, kind, [512], 0) for kind in sorted(TYPE_SIZES)])
+    odd_keys = [(b"a b", U8, 0), (b"line\nbreak\xff\x00", I8, 0)]
+    odd_names = [(b"", 0, [1], 0), (b"x\ty\n", 0, [1], 0), (b"\xff\xfe", 1, [2], 4)]
+    whole("names_as_they_are", odd_keys, odd_names)
+
+
+def full_tables():
+    falling = [(b"%02x" % i, i % 8, 0) for i in reversed(range(256))]
+    longer = [(key + b"+", kind, value) for key, kind, value in falling]
+    whole("entries_512", longer + falling, version=1)
+    whole("tensors_512", tensors=[(b"%d" % (i % 10), i % 2, [], i) for i in range(512)], version=1)
+
+
+def cut_off():
+    file = new("refused_1_nothing")
+    file.missing()
+    file = new("refused_1_in_the_magic")
+    file.cut(file.raw(b"GGUF"), 3)
+    # More tensors than rows: that is not looked at before both counts are there.
+    file = new("refused_1_in_the_second_count")
+    tensors, entries = file.start(600, 0)
+    file.cut(entries, 7)
+    file = front("refused_1_in_the_last_offset", tensors=2)
+    file.tensor(*A_AND_B[0])
+    file.tensor(*A_AND_B[1])
+    file.cut(len(file.bytes) - 8, 7)
+    # The longest string is not too long, but it is not there.
+    file = front("refused_1_string_of_2_30", entries=1)
+    file.key_and_type(b"key", STRING)
+    file.size(LONGEST)
+    file.cut(file.raw(b"abc"), 3)
+
+
+def no_such_format():
+    for letter, magic in zip("abcd", [0x67676D6C, 0x67676D66, 0x67676A74, 0x67676C61]):
+        file = new("refused_2_" + letter)
+        file.refused(2, file.number(4, magic))
+    file = new("refused_3")
+    file.refused(3, file.raw(b"GGUf"))
+    file.raw(bytes(20))
+    for version in [0, 4]:
+        file = new("refused_4_version_%d" % version, version)
+        file.start(0, 0)
+        file.refused(4, len(b"GGUF"))
+
+
+def too_many():
+    file = new("refused_6_entries_513", version=1)
+    tensors, entries = file.start(0, 513)
+    file.refused(6, entries)
+    file = new("refused_6_entries_513_v3")
+    tensors, entries = file.start(0, 513)
+    file.refused(6, entries)
+    # Both are too many: the tensors are looked at first.
+    file = new("refused_6_tensors_513")
+    tensors, entries = file.start(513, 513)
+    file.refused(6, tensors)
+
+
+def wrong_entries():
+    file = front("refused_7_key", entries=1)
+    file.refused(7, file.size(LONGEST + 1))
+    file = front("refused_7_name", tensors=1, version=1)
+    file.refused(7, file.size(LONGEST + 1))
+    file = front("refused_8_value", entries=1)
+    file.refused(8, file.key_and_type(b"k", 13))
+    file = front("refused_8_item", entries=1)
+    file.key_and_type(b"k", ARRAY)
+    file.refused(8, file.number(4, 13))
+    file = front("refused_9", entries=1)
+    file.key_and_type(b"k", ARRAY)
+    file.refused(9, file.array_start(ARRAY, 1))
+
+
+def wrong_tensors():
+    file = front("refused_10", tensors=1)
+    file.refused(10, file.name_and_dimensions(b"t", 5))
+    # These are refused by the rule that they break, as `tensor` finds it.
+    for name, tensors in {
+        "refused_11_kind_4": [(b"t", 4, [1], 0)],
+        "refused_11_kind_40": [(b"t", 40, [], 0)],
+        "refused_11_kind_41": [(b"t", 41, [], 0)],
+        "refused_13": [(b"t", 0, [2**32, 2**32, 0], 0)],
+        "refused_14": [(b"t", 0, [2**62], 0)],
+        "refused_15": [(b"u", 24, [2**63], 0), (b"t", 24, [2**63], 0)],
+    }.items():
+        whole(name, tensors=tensors)
+        number = int(name.split("_")[1])
+        assert CASES[name].answer.startswith(b"refused %d " % number), name
+
+
+def main():
+    small_headers()
+    keys()
+    types()
+    alignments()
+    shapes_and_names()
+    full_tables()
+    cut_off()
+    no_such_format()
+    too_many()
+    wrong_entries()
+    wrong_tensors()
+    data = Path(__file__).resolve().parent
+    for name, file in CASES.items():
+        (data / name).write_bytes(file.bytes)
+    text = b"".join(b"== %b\n%b" % (name.encode(), file.answer) for name, file in CASES.items())
+    (data.parent / "args").write_text("".join(name + "\n" for name in CASES))
+    (data.parent / "stdout").write_bytes(text)
+
+
+main()
