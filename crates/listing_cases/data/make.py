@@ -361,6 +361,110 @@ def wrong_tensors():
         assert CASES[name].answer.startswith(b"refused %d " % number), name
 
 
+# Faults that other readers of the format had: docs/FAULTS.md says what each class is.
+
+# So many records of any size that is a multiple of 8 take, in 64 bits, the bytes of one record.
+WRAPPING_COUNT = 2**61 + 1
+
+
+def faults_of_counts():
+    file = new("fault_entry_count_that_wraps_an_allocation")
+    tensors, entries = file.start(0, WRAPPING_COUNT)
+    file.refused(6, entries)
+    file.entry(b"k", U8, 1)
+    file = front("fault_entry_count_with_nothing_behind_it", entries=512)
+    file.missing()
+    file = new("fault_tensor_count_that_wraps_an_allocation")
+    tensors, entries = file.start(WRAPPING_COUNT, 0)
+    file.refused(6, tensors)
+    file.tensor(*A_AND_B[0])
+    file = front("fault_tensor_count_with_nothing_behind_it", tensors=512)
+    file.missing()
+
+
+def faults_of_strings():
+    file = front("fault_key_of_2_64_less_1_bytes", entries=1)
+    file.refused(7, file.size(GREATEST))
+    file.raw(b"k")
+    file = front("fault_string_of_2_64_less_1_bytes", entries=1)
+    file.key_and_type(b"k", STRING)
+    file.refused(7, file.size(GREATEST))
+    file.raw(b"text")
+    file = front("fault_item_of_2_64_less_1_bytes", entries=1)
+    file.key_and_type(b"k", ARRAY)
+    file.array_start(STRING, 1)
+    file.refused(7, file.size(GREATEST))
+    file.raw(b"text")
+    file = front("fault_name_of_2_64_less_1_bytes", tensors=1)
+    file.refused(7, file.size(GREATEST))
+    file.raw(b"t")
+    # In version 1 a size has 32 bits.
+    file = front("fault_key_of_2_32_less_1_bytes_v1", entries=1, version=1)
+    file.refused(7, file.size(2**32 - 1))
+    file.raw(b"k")
+
+
+def faults_of_arrays():
+    # One item is there, and by a product that wraps it would be all of them.
+    for name, key, kind, count, items in [
+        ("fault_array_count_that_wraps_an_allocation", b"k", U64, WRAPPING_COUNT, [1]),
+        ("fault_string_array_count_that_wraps_an_allocation", b"k", STRING, WRAPPING_COUNT, [b"x"]),
+        ("fault_array_count_of_2_64_less_1", b"tokenizer.x", U8, GREATEST, [1, 2, 3]),
+    ]:
+        file = front(name, entries=1)
+        file.key_and_type(key, ARRAY)
+        file.array_start(kind, count)
+        for item in items:
+            file.item(kind, item)
+        file.missing()
+
+
+def faults_of_shapes():
+    # 3 times this is 2^64 + 2.
+    third = (2**64 + 2) // 3
+    whole("fault_lengths_whose_product_wraps", tensors=[(b"t", 0, [third, 3], 0)])
+    whole("fault_lengths_whose_product_wraps_to_0", tensors=[(b"t", 0, [2**32, 2**32], 0)])
+    whole("fault_size_that_wraps", tensors=[(b"t", 0, [2**62 + 1], 0)])
+    halves = [(b"t", 24, [2**63], 0), (b"u", 24, [2**63 + 1], 0)]
+    whole("fault_total_of_lengths_that_wraps", tensors=halves)
+    for name, dimensions in [
+        ("fault_five_dimensions", 5),
+        ("fault_dimension_count_of_2_32_less_1", 2**32 - 1),
+    ]:
+        file = front(name, tensors=1)
+        file.refused(10, file.name_and_dimensions(b"t", dimensions))
+        for length in range(1, 6):
+            file.number(8, length)
+        file.number(4, 0)
+        file.number(8, 0)
+
+
+def faults_of_sums():
+    # The reader asks nothing of offsets, and the sizes fit one by one. The range check refuses both.
+    sizes = [(b"t", 0, [2**62 - 1], 0), (b"u", 0, [2], 0)]
+    whole("fault_sizes_whose_sum_wraps", tensors=sizes)
+    whole("fault_offset_and_size_whose_sum_wraps", tensors=[(b"t", 0, [5], 2**64 - 16)])
+
+
+def faults_of_alignments():
+    whole("fault_alignment_of_0", [(b"general.alignment", U32, 0)], A_AND_B)
+    whole("fault_alignment_below_0", [(b"general.alignment", I64, -64)], A_AND_B)
+    whole("fault_alignment_of_2_64_less_8", [(b"general.alignment", U64, 2**64 - 8)], A_AND_B)
+
+
+def faults_of_tables():
+    file = front("fault_value_type_beyond_a_table", entries=1)
+    file.refused(8, file.key_and_type(b"k", 2**32 - 1))
+    file.raw(bytes(8))
+    file = front("fault_item_type_beyond_a_table", entries=1)
+    file.key_and_type(b"k", ARRAY)
+    file.refused(8, file.array_start(2**31, 1))
+    file.raw(bytes(8))
+    whole("fault_kind_beyond_a_table", tensors=[(b"t", 2**32 - 1, [1], 0)])
+    whole("fault_kind_below_0_if_signed", tensors=[(b"t", 2**31, [1], 0)])
+    whole("fault_kind_taken_out_of_a_table", tensors=[(b"t", 5, [32], 0)])
+
+
 def main():
     small_headers()
     keys()
@@ -373,6 +477,13 @@ def main():
     too_many()
     wrong_entries()
     wrong_tensors()
+    faults_of_counts()
+    faults_of_strings()
+    faults_of_arrays()
+    faults_of_shapes()
+    faults_of_sums()
+    faults_of_alignments()
+    faults_of_tables()
     data = Path(__file__).resolve().parent
     for name, file in CASES.items():
         (data / name).write_bytes(file.bytes)

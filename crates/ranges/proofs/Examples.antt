@@ -1,5 +1,5 @@
--- Worked numbers: a file of two tensors and one byte less, computed by the checker.
--- Assumes nothing.
+-- Worked numbers: a file of two tensors, one byte less, and sums that pass 2 ^ 64, computed by the
+-- checker. Assumes nothing.
 use Prim.Native.Nat.{ℕ}
 use mathlib.Core.Path.{_≡_, refl}
 use mathlib.Core.List.{List, [], _∷_}
@@ -24,3 +24,25 @@ no-data = refl
 -- no tensors: nothing ends after the file, wherever the data would start
 no-tensors : checkFrom 96 0 0 [] ≡ Inside
 no-tensors = refl
+
+-- Sums that would wrap in 64 bits: the rows of three stored files of crates/listing_cases.
+
+-- fault_offset_and_size_whose_sum_wraps, 20 bytes at 2 ^ 64 - 16: in 64 bits they would end at 68
+wrapping-offset : checkFrom 64 134 0 ((32 ∷ 1 ∷ 0 ∷ 1 ∷ 5 ∷ 1 ∷ 1 ∷ 1 ∷ 18446744073709551600 ∷ 20 ∷ []) ∷ []) ≡ Refused 20 0
+wrapping-offset = refl
+
+-- the rows of fault_sizes_whose_sum_wraps: 2 ^ 64 - 4 bytes at 0, and 8 bytes at 0
+abbrev rowsOfTU : List (List ℕ)
+rowsOfTU = (32 ∷ 1 ∷ 0 ∷ 1 ∷ 4611686018427387903 ∷ 1 ∷ 1 ∷ 1 ∷ 0 ∷ 18446744073709551612 ∷ []) ∷ (65 ∷ 1 ∷ 0 ∷ 1 ∷ 2 ∷ 1 ∷ 1 ∷ 1 ∷ 0 ∷ 8 ∷ []) ∷ []
+
+-- in 64 bits the first would end at 92
+wrapping-size : checkFrom 96 134 0 rowsOfTU ≡ Refused 20 0
+wrapping-size = refl
+
+-- fault_alignment_of_2_64_less_8, whose data starts there: in 64 bits a would end at 12, and b at 30
+wrapping-start : checkFrom 18446744073709551608 134 0 rowsOfAB ≡ Refused 20 0
+wrapping-start = refl
+
+-- a sum that just fits is no refusal: an end of 2 ^ 64 - 1 in a file of as many bytes
+largest-end : checkFrom 96 18446744073709551615 0 ((32 ∷ 1 ∷ 0 ∷ 1 ∷ 5 ∷ 1 ∷ 1 ∷ 1 ∷ 18446744073709551499 ∷ 20 ∷ []) ∷ []) ≡ Inside
+largest-end = refl
