@@ -3,7 +3,7 @@ use mathlib.Core.Path.{refl}
 use Rattle.fields.specs.Bytes.{little, bytesOf}
 use Rattle.reading.specs.Back.{bytesOfAll}
 use Rattle.reading.specs.Each.{each}
-use Rattle.reading.specs.Reading.{run, here, andThen}
+use Rattle.reading.specs.Reading.{run, here, andThen, _>>=_}
 use Rattle.fields.specs.Value.{number}
 use Rattle.kinds.specs.Table.{blockOf}
 use Rattle.layout.specs.Layout.{placeOf, layoutFrom}

@@ -9,13 +9,18 @@ use Rattle.fields.specs.Bytes.{Byte}
 use Rattle.reading.specs.Reading.{Answer, accepted, refused}
 use Rattle.reading.specs.declared.Limits.{Limits}
 use Rattle.reading.proofs.Repetition.{seen-refused}
-use Rattle.lookup.specs.declared.FileKind.{FileKind}
-use Rattle.lookup.specs.declared.FileKind.the-variants.{Number, Unknown}
+use mathlib.Core.Bool.{Bool, true, false}
+use lib.Dec.{leb}
+use Rattle.reading.specs.Choice.{if_then_else_}
+use Rattle.scalars.specs.Scalars.{naturalOf}
+use Rattle.scalars.specs.declared.Natural.{Natural}
+use Rattle.scalars.specs.declared.Natural.the-variants.{Number, None as NoNumber}
+use Rattle.lookup.specs.declared.FileTypeRead.the-variants.{Known, Unknown}
 use Rattle.values.specs.declared.Value.{Value}
 use Rattle.values.specs.declared.Value.the-variants.{Single, Text, Array}
 use Rattle.header.specs.declared.Header.{Header}
 use Rattle.header.proofs.NeverSix.{never-6}
-use Rattle.lookup.specs.Questions.{lookup, typeStatus, valueFileType, tellType, fileTypeIn}
+use Rattle.lookup.specs.Questions.{lookup, typeStatus, fileTypeOf, valueFileType, fileTypeIn}
 use Rattle.lookup.specs.declared.Lookup.{Lookup}
 use Rattle.lookup.specs.declared.Lookup.the-variants.{Found, Absent, Refused}
 use Rattle.lookup.proofs.LookupNeverSix.{lookup-never-6}
@@ -28,6 +33,15 @@ measured-never-6 limits s bytes e = by (measured limits s) refl e
     by : (r : Answer Header) → r ≡ measured limits s → numberOf r ≡ 6 → ⊥
     by (accepted h q) f e = omega arith
     by (refused n p) f e = never-6 limits 3 s bytes (sym (seen-refused _ _ _ _ (ap (λ m. refused m p) (sym e) ∙ f)))
+
+-- a file type's number, in the table or beyond it
+known-type : (n : ℕ) (b : Bool) → typeNumber (if b then Known n else Unknown) ≡ 6 → ⊥
+known-type n true e = omega arith
+known-type n false e = omega arith
+
+file-type : (n : Natural) → typeNumber (fileTypeOf n) ≡ 6 → ⊥
+file-type (Number n) e = known-type n (leb n 24) e
+file-type NoNumber e = omega arith
 
 module _ (key s : List ℕ) (bytes : All Byte s) where
   not-six : {n p : ℕ} → Refused n p ≡ lookup key s → n ≡ 6 → ⊥
@@ -60,11 +74,12 @@ module _ (key s : List ℕ) (bytes : All Byte s) where
   pub type-never-6 : typeNumber (fileTypeIn (lookup key s)) ≡ 6 → ⊥
   type-never-6 e = by (lookup key s) refl e
     where
-      told : (k : FileKind) → typeNumber (tellType k) ≡ 6 → ⊥
-      told (Number n) e = omega arith
-      told Unknown e = omega arith
+      told : (v : Value) → typeNumber (valueFileType v) ≡ 6 → ⊥
+      told (Single x) e = file-type (naturalOf x) e
+      told (Text a) e = omega arith
+      told (Array a) e = omega arith
 
       by : (l : Lookup) → l ≡ lookup key s → typeNumber (fileTypeIn l) ≡ 6 → ⊥
-      by (Found x) f e = told (valueFileType (x .value)) e
+      by (Found x) f e = told (x .value) e
       by Absent f e = omega arith
       by (Refused n p) f e = not-six f e

@@ -25,8 +25,8 @@ abbrev μ-loop : tie.MeasureT-loop
 loop-holds : tie.Need-loop-holds Inv-loop μ-loop
 loop-holds c = (omega arith, rw sub-zero (c .before .pre), rw sub-zero)
 
-entry-again-requires : tie.Need-known-entry-requires Inv-loop μ-loop
-entry-again-requires c κs = entry-here _ _ _ _ (c .loop-test .taken) (c .before .loop .inv .1)
+known-entry-requires : tie.Need-known-entry-requires Inv-loop μ-loop
+known-entry-requires c κs = entry-here _ _ _ _ (c .loop-test .taken) (c .before .loop .inv .1)
 
 entry-room-requires : tie.Need-entry-room-requires Inv-loop μ-loop
 entry-room-requires c κs = ap stepOf (entry-value _ _ _ _ (c .before .loop-test .taken) (c .before .before .loop .inv .1) (c .known-entry .ensures))
@@ -55,7 +55,7 @@ entries-room-spec =
     Inv-loop
     μ-loop
     loop-holds
-    entry-again-requires
+    known-entry-requires
     entry-room-requires
     (λ c. omega arith)
     (λ c. omega arith)

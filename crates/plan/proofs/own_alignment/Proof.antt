@@ -27,8 +27,8 @@ abbrev μ-loop : tie.MeasureT-loop
 loop-holds : tie.Need-loop-holds Inv-loop μ-loop
 loop-holds c = (omega arith, rw sub-zero (c .before .pre), rw sub-zero)
 
-entry-again-requires : tie.Need-known-entry-requires Inv-loop μ-loop
-entry-again-requires c κs = entry-here _ _ _ _ (c .loop-test .taken) (c .before .loop .inv .1)
+known-entry-requires : tie.Need-known-entry-requires Inv-loop μ-loop
+known-entry-requires c κs = entry-here _ _ _ _ (c .loop-test .taken) (c .before .loop .inv .1)
 
 value-alignment-requires : tie.Need-value-alignment-requires Inv-loop μ-loop
 value-alignment-requires c κs =
@@ -59,7 +59,7 @@ own-alignment-spec =
     Inv-loop
     μ-loop
     loop-holds
-    entry-again-requires
+    known-entry-requires
     (λ c κs. search needs)
     (λ c κs. search needs)
     value-alignment-requires

@@ -21,11 +21,11 @@ abbrev μ-loop : tie.MeasureT-loop
 loop-holds : tie.Need-loop-holds Inv-loop μ-loop
 loop-holds c = passed-start _ _ (c .before .pre)
 
-entry-again-requires : tie.Need-known-entry-requires Inv-loop μ-loop
-entry-again-requires c κs = next-there metadata _ _ _ _ (c .loop-test .taken) (c .before .loop .inv .all)
+known-entry-requires : tie.Need-known-entry-requires Inv-loop μ-loop
+known-entry-requires c κs = next-there metadata _ _ _ _ (c .loop-test .taken) (c .before .loop .inv .all)
 
 -- the entry that was read again
-entry : (c : tie.After-entry-again Inv-loop μ-loop) →
+entry : (c : tie.After-known-entry Inv-loop μ-loop) →
     let l = c .before .before in
     EntryThere (now (l .before .before .args .s)) (l .loop .from) (c .known-entry .result .parts) (c .known-entry .result .next)
 entry c = entry-there _ _ (c .known-entry .ensures)
@@ -56,7 +56,7 @@ entries-before-spec =
     Inv-loop
     μ-loop
     loop-holds
-    entry-again-requires
+    known-entry-requires
     (λ c. search needs)
     (λ c κs. search needs)
     (λ c κs. search needs)

@@ -27,17 +27,17 @@ abbrev μ-loop : tie.MeasureT-loop
 loop-holds : tie.Need-loop-holds Inv-loop μ-loop
 loop-holds c = left-start _ _ _ _ _ _ (c .before .before .pre .0)
 
-entry-again-requires : tie.Need-known-entry-requires Inv-loop μ-loop
-entry-again-requires c κs = next-there metadata _ _ _ _ (c .loop-test .taken) (c .before .loop .inv .all)
+known-entry-requires : tie.Need-known-entry-requires Inv-loop μ-loop
+known-entry-requires c κs = next-there metadata _ _ _ _ (c .loop-test .taken) (c .before .loop .inv .all)
 
 -- the entry that was read again
-entry : (c : tie.After-entry-again Inv-loop μ-loop) →
+entry : (c : tie.After-known-entry Inv-loop μ-loop) →
     let l = c .before .before in
     EntryThere (now (l .before .before .before .args .s)) (l .loop .from) (c .known-entry .result .parts) (c .known-entry .result .next)
 entry c = entry-there _ _ (c .known-entry .ensures)
 
 -- there is room for all the entries, and so for this one
-all-room : (c : tie.After-entry-again Inv-loop μ-loop) →
+all-room : (c : tie.After-known-entry Inv-loop μ-loop) →
     let a = c .before .before .before .before .before .args in
     length (bytesOfAll (λ e. entryBytes (a .dialect) (entryIn e)) (got (run (times (a .n) metadata) (now (a .s)) (a .at)))) ≤ length (now (a .out))
 all-room c =
@@ -45,7 +45,7 @@ all-room c =
     let a = u .args in
     subst (λ l. length l ≤ length (now (a .out))) (rows-map (entryBytes (a .dialect)) entryIn (got (run (times (a .n) metadata) (now (a .s)) (a .at)))) (u .pre .1)
 
-room : (c : tie.After-entry-again Inv-loop μ-loop) →
+room : (c : tie.After-known-entry Inv-loop μ-loop) →
     let l = c .before .before .loop in
     let a = c .before .before .before .before .before .args in
     l .done + length (entryBytes (a .dialect) (entry c .what .content)) ≤ length (l .out)
@@ -99,7 +99,7 @@ write-entries-spec =
     Inv-loop
     μ-loop
     loop-holds
-    entry-again-requires
+    known-entry-requires
     sub-write-entry
     part-write-entry-start
     part-write-entry-end
