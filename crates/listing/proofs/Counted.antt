@@ -9,7 +9,7 @@ use lib.Seq.{take-at}
 use borrow.Rule.Slice.PartMut.{midOf}
 use Rattle.reading.specs.Each.{filled}
 use Rattle.reading.specs.Reading.{accepted, refused, seen}
-use Rattle.reading.proofs.Turns.{seen-accepted, seen-refused}
+use Rattle.reading.proofs.Repetition.{seen-accepted, seen-refused}
 use Rattle.values.specs.Rows.{entryRow}
 use Rattle.tensors.specs.Rows.{tensorRow}
 use Rattle.reading.specs.Ceilings.{full}

@@ -12,14 +12,17 @@ use key_order::name_in;
 use key_order::next_key;
 use rows::DIMENSIONS;
 use rows::EntryRow;
+use rows::FIRST_LENGTH;
+use rows::FOURTH_LENGTH;
 use rows::KEY_LENGTH;
 use rows::KEY_PLACE;
 use rows::KIND;
-use rows::LENGTHS;
 use rows::NAME_LENGTH;
 use rows::NAME_PLACE;
 use rows::OFFSET;
+use rows::SECOND_LENGTH;
 use rows::SIZE;
+use rows::THIRD_LENGTH;
 use rows::TensorRow;
 use rows::VALUE_TYPE;
 use text_out::put_labelled;
@@ -35,6 +38,7 @@ ghost use Rattle.tensors.specs.Rows.{tensorRow};
 ghost use Rattle.reading.specs.Ceilings.{full};
 ghost use Rattle.header.specs.Answers.{readerRun};
 ghost use Rattle.key_order.specs.Order.{ordered};
+ghost use Rattle.rows.specs.Columns.{lengthsIn};
 ghost use Rattle.text_out.specs.Put.{Put};
 ghost use Rattle.listing.specs.Steps as steps;
 ghost use Rattle.listing.specs.Text as text;
@@ -113,18 +117,18 @@ fn put_plane(out: &mut [u8], row: TensorRow) -> usize
     ensures { λ r. ⌜ Put (steps.planeText row) (now (out .entry)) (now (out .exit)) r ⌝ }
 {
     let count = row[DIMENSIONS];
-    let a = put_first(out, count, row[LENGTHS]);
-    a + put_further(&mut out[a..], 1, count, row[LENGTHS + 1])
+    let a = put_first(out, count, row[FIRST_LENGTH]);
+    a + put_further(&mut out[a..], 1, count, row[SECOND_LENGTH])
 }
 
 // The lengths of a tensor.
 fn put_lengths(out: &mut [u8], row: TensorRow) -> usize
-    ensures { λ r. ⌜ Put (text.lengthsText (text.lengthsIn row)) (now (out .entry)) (now (out .exit)) r ⌝ }
+    ensures { λ r. ⌜ Put (text.lengthsText (lengthsIn row)) (now (out .entry)) (now (out .exit)) r ⌝ }
 {
     let count = row[DIMENSIONS];
     let a = put_plane(out, row);
-    let b = a + put_further(&mut out[a..], 2, count, row[LENGTHS + 2]);
-    b + put_further(&mut out[b..], 3, count, row[LENGTHS + 3])
+    let b = a + put_further(&mut out[a..], 2, count, row[THIRD_LENGTH]);
+    b + put_further(&mut out[b..], 3, count, row[FOURTH_LENGTH])
 }
 
 // A tensor's name, kind and lengths.

@@ -42,8 +42,13 @@ pub const KIND: usize = 2;
 
 pub const DIMENSIONS: usize = 3;
 
-// The four lengths stand in a row, the first here.
-pub const LENGTHS: usize = 4;
+pub const FIRST_LENGTH: usize = 4;
+
+pub const SECOND_LENGTH: usize = 5;
+
+pub const THIRD_LENGTH: usize = 6;
+
+pub const FOURTH_LENGTH: usize = 7;
 
 pub const OFFSET: usize = 8;
 

@@ -5,12 +5,15 @@ use reading::Limits;
 use header::HeaderRead;
 use rows::DIMENSIONS;
 use rows::EntryRow;
+use rows::FIRST_LENGTH;
+use rows::FOURTH_LENGTH;
 use rows::KIND;
-use rows::LENGTHS;
 use rows::NAME_LENGTH;
 use rows::NAME_PLACE;
 use rows::OFFSET;
+use rows::SECOND_LENGTH;
 use rows::SIZE;
+use rows::THIRD_LENGTH;
 use rows::TensorRow;
 ghost use mathlib.Core.Path.{_≡_};
 ghost use mathlib.Core.List.{[]};
@@ -73,10 +76,10 @@ pub fn record_of(row: TensorRow) -> TensorRecord
         name_len: row[NAME_LENGTH],
         kind: row[KIND],
         dimensions: row[DIMENSIONS],
-        first: row[LENGTHS],
-        second: row[LENGTHS + 1],
-        third: row[LENGTHS + 2],
-        fourth: row[LENGTHS + 3],
+        first: row[FIRST_LENGTH],
+        second: row[SECOND_LENGTH],
+        third: row[THIRD_LENGTH],
+        fourth: row[FOURTH_LENGTH],
         offset: row[OFFSET],
         size: row[SIZE],
     }

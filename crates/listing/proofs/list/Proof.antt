@@ -15,7 +15,7 @@ told : (c : tie.After-header) →
     let a = c .before .before .before .before .before .before .before .before .before .args in
     let h = c .header .given .0 .0 in
     Told (now (a .s)) (now (a .entries)) (now (a .tensors)) h (h .end)
-told c = ap asHeader (sym (c .header .given .1)) ∙ c .before .before .before .before .read .ensures .0
+told c = ap asHeader (sym (c .header .given .1)) ∙ c .before .before .before .before .read .ensures .answer
 
 part-put-all-end : tie.Need-part-put-all-end
 part-put-all-end c =
@@ -36,16 +36,16 @@ returns c =
     let w = c .before .before .before .before .before in
     let r = w .before .before .before .before in
     let a = r .before .before .before .before .before .args in
-    let e = ap asHeader (sym (w .why .given .1)) ∙ r .read .ensures .0 in
-    (put-same (refusal-listed (now (a .s)) (now (a .entries)) (now (a .tensors)) e) (c .before .before .put-refusal .ensures), r .read .ensures .1)
+    let e = ap asHeader (sym (w .why .given .1)) ∙ r .read .ensures .answer in
+    (put-same (refusal-listed (now (a .s)) (now (a .entries)) (now (a .tensors)) e) (c .before .before .put-refusal .ensures), (r .read .ensures .entryRows, r .read .ensures .tensorRows))
 
 returns-2 : tie.Need-returns-2
 returns-2 c =
     let h = c .before .before .before .before .before .before .before .before .before in
     let r = h .before .before .before .before in
     let a = r .before .before .before .before .before .args in
-    let l = lines-listed (now (a .s)) (now (a .entries)) (now (a .tensors)) (told h) (r .read .ensures .1 .0) (r .read .ensures .1 .1) in
-    (put-same l (c .before .before .put-all .ensures), r .read .ensures .1)
+    let l = lines-listed (now (a .s)) (now (a .entries)) (now (a .tensors)) (told h) (r .read .ensures .entryRows) (r .read .ensures .tensorRows) in
+    (put-same l (c .before .before .put-all .ensures), (r .read .ensures .entryRows, r .read .ensures .tensorRows))
 
 pub list-spec : {M : Type 1} → statement M
 list-spec =
