@@ -10,3 +10,4 @@ pub mod NeverSix
 pub mod AlignmentFound
 pub mod HeaderBack
 pub mod Examples
+pub mod SpansInside

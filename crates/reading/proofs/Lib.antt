@@ -4,3 +4,4 @@ pub mod BackLaws
 pub mod CeilingLaws
 pub mod SureLaws
 pub mod RunLaws
+pub mod Onward

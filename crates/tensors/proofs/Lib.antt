@@ -5,3 +5,4 @@ pub mod TensorsBack
 pub mod TensorsFit
 pub mod Examples
 pub mod Totals
+pub mod TensorsEnd

@@ -4,3 +4,4 @@ pub mod ValuesFit
 pub mod Examples
 pub mod Texts
 pub mod ValueForms
+pub mod ValuesEnd
