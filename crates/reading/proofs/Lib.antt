@@ -5,3 +5,4 @@ pub mod CeilingLaws
 pub mod SureLaws
 pub mod RunLaws
 pub mod Onward
+pub mod RefusalLaws

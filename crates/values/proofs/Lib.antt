@@ -5,3 +5,4 @@ pub mod Examples
 pub mod Texts
 pub mod ValueForms
 pub mod ValuesEnd
+pub mod ValueRefusals
