@@ -17,6 +17,8 @@ use Rattle.reading.proofs.BackLaws.{looked-at}
 use Rattle.reading.specs.Ceilings.{under, Low}
 use Rattle.reading.specs.declared.Limits.{Limits}
 use Rattle.reading.proofs.SureLaws.{sure-field}
+use Rattle.reading.specs.Refusals.{Refuses}
+use Rattle.reading.proofs.RefusalLaws.{refuses-field}
 
 module _ {s : List ℕ} where
   -- a number that fits its width
@@ -52,3 +54,8 @@ unfolding number
 sure-number s bytes w big p = sure-field (λ there.
     let n : length (take w (drop p s)) ≡ w = length-take-le w (drop p s) (rw length-drop (omega arith)) in
     rw (take-take w w (drop p s) (omega arith)) (rw n at (value-small big (take w (drop p s)) (all-take w (drop p s) (all-drop p s bytes)))))
+
+-- a number that is not wholly there is refusal 1, and no other
+pub refuses-number : {l : Limits} {s : List ℕ} {P : ℕ → ℕ → Type 0} (w : ℕ) (big : Bool) → ((q : ℕ) → q ≤ length s → P 1 q) → Refuses l s P (number w big)
+unfolding number
+refuses-number w big h = refuses-field h

@@ -7,26 +7,25 @@ use native.Mathlib.Omega.{arith}
 use native.Mathlib.Nat.{mod-eq-of-lt}
 use lib.ListN.{length}
 use lib.Dec.{leb, eqb, ltb}
-use borrow.Author.Tests.{leb-true, leb-false, le-leb, eqb-true, eqb-false}
+use borrow.Author.Tests.{leb-true, leb-false, eqb-true, eqb-false}
 use Rattle.reading.specs.Back.{All, Sure}
-use Rattle.reading.specs.Ceilings.{marks}
+use Rattle.reading.specs.Ceilings.{full}
 use Rattle.reading.specs.Choice.{if_then_else_}
-use Rattle.reading.specs.Each.{each, times, fold}
-use Rattle.reading.specs.Reading.{Reading, done, accepted, refused, run, _>>=_, _>>_, here, check}
-use Rattle.reading.proofs.CeilingLaws.{ceilings}
-use Rattle.reading.proofs.RunLaws.{inside}
+use Rattle.reading.specs.Each.{times, fold}
+use Rattle.reading.specs.Reading.{Reading, accepted, refused, run}
+use Rattle.reading.specs.Refusals.{Refuses}
+use Rattle.reading.proofs.CeilingLaws.{low-run}
 use Rattle.reading.proofs.SureLaws.{sure-then, sure-done, sure-here, sure-if, sure-each, whatever}
 use Rattle.kinds.specs.Shape.{greatest}
 use Rattle.values.specs.Format.{value, valueOf, array, depth, keeping, entry}
 use Rattle.scalars.specs.Scalars.{scalarWidth, scalarOf, naturalOf}
-use Rattle.tensors.specs.Format.{tensor, totalOf}
 use Rattle.layout.specs.Padding.{padded}
 use Rattle.layout.proofs.Padding.{padded-whole, padded-up}
 use Rattle.reading.specs.declared.Limits.{Limits}
 use Rattle.header.specs.Answers.{readerRun}
-use Rattle.start.specs.Format.{start}
-use Rattle.header.specs.Format.{usable, alignmentOf, latest, FullHeader, header}
-use Rattle.header.proofs.NeverRefused.{refused-at, never-entries, never-tensors, never-start, not-new}
+use Rattle.header.specs.Format.{usable, alignmentOf, latest, header}
+use Rattle.header.proofs.HeaderCeilings.{low-header}
+use Rattle.header.proofs.HeaderRefusals.{not-listed, refuses-header}
 use Rattle.start.specs.declared.Rooms.{Rooms}
 use Rattle.values.specs.declared.Dialect.{Dialect}
 use Rattle.values.specs.declared.ArraySpan.{ArraySpan}
@@ -112,29 +111,20 @@ rounded-small a n h = rounded-cases a n (eqb (n % a) 0) (leb a n) h refl refl
 pub start-small : (a n : ℕ) → Alignment a → n < 2 ^ 63 → padded a n ≤ greatest
 start-small a n h short = omega (arith, h .fits, rounded-small a n (h .above))
 
-judged-cases : (w : FullHeader) (b : Bool) (s : List ℕ) (e n p : ℕ) → b ≡ true → refused n p ≡ run (check b 18 e >> done w) s e → ⊥
-unfolding run _>>=_
-judged-cases w true s e n p h f = let z : _≡_ {A = ℕ} 0 1 = cc in omega arith
-judged-cases w false s e n p h f = let z : _≡_ {A = ℕ} 0 1 = cc in omega arith
-
-at-here : {A : Type 0} (f : ℕ → Reading A) (s : List ℕ) (p : ℕ) → run (here >>= f) s p ≡ run (f p) s p
-unfolding run here _>>=_
-at-here f s p = refl
-
 -- no header in fewer than 2 ^ 63 bytes is refused for the start of its data; a slice has fewer, since owning one tells that its elements take fewer
+never-overflows : (l : Limits) (rooms : Rooms) (cap : ℕ) (s : List ℕ) → length s < 2 ^ 63 → Refuses l s (λ n q. n ≡ 18 → ⊥) (header rooms cap)
+never-overflows l rooms cap s short =
+    refuses-header rooms cap (λ n q h low. not-listed 18 n refl h) (λ k p. record { holds = λ n q e o low. (λ f i. omega arith, λ f i. omega arith) })
+    (λ k n p es q e read low over i.
+    let near : e < 2 ^ 63 = omega arith in
+    omega (arith, start-small (fold latest 32 es) e (entries-alignment k cap n s p read) near))
+
 pub no-overflow : (rooms : Rooms) (cap : ℕ) (s : List ℕ) → length s < 2 ^ 63 → {p : ℕ} → run (header rooms cap) s 0 ≡ refused 18 p → ⊥
-unfolding header
-no-overflow rooms cap s short {p = o} e =
-    refused-at (start rooms) _ s 0 (sym e) (never-start refl rooms (λ six. absurd (omega arith)) .never 0) (λ c p f g.
-    refused-at (times (c .entries) (entry (c .dialect) cap)) _ s p g (never-entries refl (c .dialect) cap (c .entries) .never p) (λ es q h i.
-    refused-at (each (tensor (c .dialect)) totalOf (c .tensors) 0) _ s q i (never-tensors refl (c .dialect) (c .tensors) .never q) (λ ts u j k.
-    let near : u < 2 ^ 63 =
-    omega (arith, inside (start rooms) s 0 f, inside (times (c .entries) (entry (c .dialect) cap)) s p h, inside (each (tensor (c .dialect)) totalOf (c .tensors) 0) s q j) in
-    let fits : padded (fold latest 32 es) u ≤ greatest = start-small _ u (entries-alignment (c .dialect) cap (c .entries) s p h) near in
-    judged-cases _ (leb (padded (fold latest 32 es) u) greatest) s u 18 o (le-leb _ _ fits) (k ∙ at-here _ s u))))
+no-overflow rooms cap s short {p} e =
+    let same = low-run full (header rooms cap) (low-header full (omega arith) (omega arith) rooms cap) s 0 in
+    never-overflows full rooms cap s short .refusal 0 (omega arith) 18 p (sym (same ∙ e)) refl
 
 -- nor does a reader with any ceilings refuse a slice for that
 pub never-18 : (limits : Limits) (cap : ℕ) (es ts : List (List ℕ)) (s : List ℕ) → length s < 2 ^ 63 → {p : ℕ} → readerRun limits cap es ts s ≡ refused 18 p → ⊥
 never-18 limits cap es ts s short {p} e =
-    let rooms : Rooms = record { entries = length es; tensors = length ts } in
-    no-overflow rooms cap s short (sym (not-new limits (marks (header rooms cap) s 0) _ (λ i. omega arith) (λ i. omega arith) (sym e ∙ ceilings limits (header rooms cap) s 0)))
+    never-overflows limits (record { entries = length es; tensors = length ts }) cap s short .refusal 0 (omega arith) 18 p (sym e) refl

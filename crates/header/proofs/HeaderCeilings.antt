@@ -2,15 +2,16 @@
 use Prim.Native.Nat.{ℕ, _≤_}
 use mathlib.Core.Path.{_≡_, sym, ap, _∙_}
 use mathlib.Core.List.{List}
+use mathlib.Core.Bool.{true, false}
 use native.Mathlib.Omega.{arith}
 use lib.ListN.{length}
 use lib.Dec.{leb}
-use Rattle.reading.specs.Ceilings.{marks, orTooNew, Low, full}
+use Rattle.reading.specs.Ceilings.{tooNew, Mark, marks, orTooNew, allWithin, FirstAbove, Low, full}
 use Rattle.reading.specs.Each.{fold}
-use Rattle.reading.specs.Reading.{Reading, accepted, run}
-use Rattle.reading.proofs.CeilingLaws.{ceilings, let-through, low-run, low-bind, low-done, low-here, low-checked, low-each}
+use Rattle.reading.specs.Reading.{Reading, accepted, refused, run, seen}
+use Rattle.reading.proofs.CeilingLaws.{ceilings, unhindered, first-refused, first-above, let-through, low-run, low-bind, low-done, low-here, low-checked, low-each}
 use Rattle.kinds.specs.Shape.{greatest}
-use Rattle.header.specs.Answers.{readerRun}
+use Rattle.header.specs.Answers.{readerRun, Outcome, outcomeOf, readerOutcome}
 use Rattle.values.proofs.ValueMarks.{low-entry}
 use Rattle.tensors.proofs.TensorMarks.{low-tensor}
 use Rattle.layout.specs.Padding.{padded}
@@ -51,3 +52,30 @@ module _ (cap : ℕ) (es ts : List (List ℕ)) (s : List ℕ) where
   -- what it accepts, the full reader accepts
   pub accepted-below : (l : Limits) {w : FullHeader} {q : ℕ} → accepted w q ≡ readerRun l cap es ts s → accepted w q ≡ readerRun full cap es ts s
   accepted-below l e = let-through l (marks (tabled cap es ts) s 0) _ (e ∙ below-ceilings l)
+
+-- The same of what a call comes to: its answer and both tables.
+
+-- the versions and kinds that the full reader reaches and finds known, in order, each with its
+-- place
+abbrev pub foundKnown : ℕ → List (List ℕ) → List (List ℕ) → List ℕ → List Mark
+foundKnown cap es ts s = marks (tabled cap es ts) s 0
+
+-- the mark k is refused, by number (5 for a version, 12 for a kind) and place, and both tables are
+-- as they were
+abbrev pub refusedFor : Mark → List (List ℕ) → List (List ℕ) → Outcome
+refusedFor k es ts = record { answer = refused (tooNew (k .which)) (k .place); entries = es; tensors = ts }
+
+module _ (l : Limits) (cap : ℕ) (es ts : List (List ℕ)) (s : List ℕ) where
+  -- where no version or kind that the full reader finds known is above the ceilings, a reader comes
+  -- to what the full reader does, accepted or refused
+  pub ceilings-keep : allWithin l (foundKnown cap es ts s) ≡ true → readerOutcome l cap es ts s ≡ readerOutcome full cap es ts s
+  ceilings-keep low = ap (outcomeOf es ts) (unhindered l (tabled cap es ts) s 0 low ∙ sym (full-reader cap es ts s))
+
+  -- at the first that is above them it refuses
+  pub refused-first : {k : Mark} → FirstAbove l (foundKnown cap es ts s) k → readerOutcome l cap es ts s ≡ refusedFor k es ts
+  unfolding seen
+  refused-first h = ap (outcomeOf es ts) (up-to-ceilings cap es ts s l ∙ first-refused l (foundKnown cap es ts s) _ h)
+
+  -- and otherwise there is a first that is above them, and there it refuses
+  pub ceilings-refuse : allWithin l (foundKnown cap es ts s) ≡ false → (k : Mark) × FirstAbove l (foundKnown cap es ts s) k × (readerOutcome l cap es ts s ≡ refusedFor k es ts)
+  ceilings-refuse high = let f = first-above l (foundKnown cap es ts s) high in (f .0, f .1, refused-first (f .1))

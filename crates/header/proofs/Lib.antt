@@ -4,9 +4,12 @@ pub mod Counted
 pub mod KeptRows
 pub mod Stays
 pub mod HeaderCeilings
-pub mod NeverRefused
+pub mod HeaderRefusals
 pub mod DataStart
 pub mod NeverSix
 pub mod AlignmentFound
 pub mod HeaderBack
 pub mod Examples
+pub mod SpansInside
+pub mod RefusalsListed
+pub mod EachRefusal

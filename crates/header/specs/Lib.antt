@@ -2,3 +2,5 @@ pub mod Format
 pub mod Answers
 pub mod Steps
 pub mod Contents
+pub mod Refusals
+pub mod Spans

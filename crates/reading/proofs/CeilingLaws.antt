@@ -6,7 +6,7 @@ use mathlib.Core.Bool.{Bool, true, false}
 use native.Mathlib.Omega.{arith}
 use lib.ListN.{length, take, drop}
 use lib.Dec.{leb}
-use Rattle.reading.specs.Ceilings.{ceiling, tooNew, under, Mark, marks, within, orTooNew, allWithin, Low}
+use Rattle.reading.specs.Ceilings.{ceiling, tooNew, under, Mark, marks, within, orTooNew, allWithin, FirstAbove, Low}
 use Rattle.reading.specs.Choice.{if_then_else_}
 use Rattle.reading.specs.Each.{each}
 use Rattle.reading.specs.Pieces.{more}
@@ -52,6 +52,28 @@ none-above l (k ∷ ks) r h = above-none (within l k) (allWithin l ks) _ _ _ (no
 -- where none is above the ceilings they change nothing
 pub unhindered : {A : Type 0} (l : Limits) (m : Reading A) (s : List ℕ) (at : ℕ) → allWithin l (marks m s at) ≡ true → run (under l m) s at ≡ run m s at
 unhindered l m s at h = ceilings l m s at ∙ none-above l (marks m s at) (run m s at) h
+
+-- a reader refuses at the first mark above its ceiling
+above-first : {A : Type 0} (l : Limits) (before : List Mark) (k : Mark) (later : List Mark) (r : Answer A) → allWithin l before ≡ true → within l k ≡ false
+    → orTooNew l (before ++ (k ∷ later)) r ≡ refused (tooNew (k .which)) (k .place)
+above-first l [] k later r low high = rw high
+above-first l (j ∷ js) k later r low high = above-none (within l j) (allWithin l js) _ _ _ (λ h. above-first l js k later r h high) low
+
+pub first-refused : {A : Type 0} (l : Limits) (ks : List Mark) {k : Mark} (r : Answer A) → FirstAbove l ks k → orTooNew l ks r ≡ refused (tooNew (k .which)) (k .place)
+first-refused l ks {k} r h = ap (λ m. orTooNew l m r) (h .order) ∙ above-first l (h .before) k (h .after) r (h .low) (h .high)
+
+-- where not all marks are within the ceilings, one is the first above them
+first-cases : (l : Limits) (k : Mark) (ks : List Mark) (b : Bool) → within l k ≡ b → (allWithin l ks ≡ false → (j : Mark) × FirstAbove l ks j)
+    → (if b then allWithin l ks else false) ≡ false → (j : Mark) × FirstAbove l (k ∷ ks) j
+first-cases l k ks true e rest h =
+    let r = rest h in
+    let f = r .1 in
+    (r .0, record { before = k ∷ f .before; after = f .after; order = ap (λ m. k ∷ m) (f .order); low = rw e (f .low); high = f .high })
+first-cases l k ks false e rest h = (k, record { before = []; after = ks; order = refl; low = refl; high = e })
+
+pub first-above : (l : Limits) (ks : List Mark) → allWithin l ks ≡ false → (k : Mark) × FirstAbove l ks k
+first-above l [] h = let z : _≡_ {A = ℕ} 0 1 = cc in absurd (omega arith)
+first-above l (k ∷ ks) h = first-cases l k ks (within l k) refl (first-above l ks) h
 
 let-through-one : {A : Type 0} (b : Bool) (x : Answer A) (n p : ℕ) {a : A} {q : ℕ} {r : Answer A} → (accepted a q ≡ x → accepted a q ≡ r) → accepted a q ≡ (if b then x else refused n p) → accepted a q ≡ r
 let-through-one true x n p f e = f e

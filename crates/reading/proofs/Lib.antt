@@ -4,3 +4,5 @@ pub mod BackLaws
 pub mod CeilingLaws
 pub mod SureLaws
 pub mod RunLaws
+pub mod Onward
+pub mod RefusalLaws

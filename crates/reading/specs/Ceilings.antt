@@ -1,7 +1,7 @@
 -- A reader of a format that takes only versions and kinds up to its ceilings.
 -- What the code's answers say, and the run that an answer and both tables come from.
 use Prim.Native.Nat.{ℕ, _+_}
-use mathlib.Core.List.{List, [], _∷_}
+use mathlib.Core.List.{List, [], _∷_, _++_}
 use mathlib.Core.Bool.{Bool, true, false}
 use mathlib.Core.Path.{_≡_}
 use lib.ListN.{length, take, drop}
@@ -55,6 +55,14 @@ orTooNew l (k ∷ ks) r = if within l k then orTooNew l ks r else refused (tooNe
 abbrev pub allWithin : Limits → List Mark → Bool
 allWithin l [] = true
 allWithin l (k ∷ ks) = if within l k then allWithin l ks else false
+
+-- k is the first of the marks ks that is above its ceiling: those before it are not
+pub record FirstAbove (l : Limits) (ks : List Mark) (k : Mark) : Type 0 where
+  pub before : List Mark
+  pub after : List Mark
+  pub order : ks ≡ before ++ (k ∷ after)
+  pub low : allWithin l before ≡ true
+  pub high : within l k ≡ false
 
 -- the program has no mark above its ceiling, whatever it reads
 unfoldable pub Low : {A : Type 0} → Limits → Reading A → Type 0

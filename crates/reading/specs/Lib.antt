@@ -4,3 +4,4 @@ pub mod Each
 pub mod Pieces
 pub mod Ceilings
 pub mod Back
+pub mod Refusals

@@ -5,3 +5,5 @@ pub mod TensorsBack
 pub mod TensorsFit
 pub mod Examples
 pub mod Totals
+pub mod TensorRefusals
+pub mod TensorsEnd

@@ -4,3 +4,5 @@ pub mod ValuesFit
 pub mod Examples
 pub mod Texts
 pub mod ValueForms
+pub mod ValuesEnd
+pub mod ValueRefusals

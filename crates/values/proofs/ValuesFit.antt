@@ -45,7 +45,7 @@ shallow-again k o n s p false true x y e = e
 shallow-again k o n s p false false x y e = none-refused n 9 o 0 s p Array e
 
 -- the place of the item type matters only where nothing is accepted
-items-anywhere : (d : ℕ) (k : Dialect) (o t n : ℕ) (s : List ℕ) (p : ℕ) {l : List Value} {q : ℕ} → accepted l q ≡ run (times n (valueOf (array d k) k o t)) s p
+pub items-anywhere : (d : ℕ) (k : Dialect) (o t n : ℕ) (s : List ℕ) (p : ℕ) {l : List Value} {q : ℕ} → accepted l q ≡ run (times n (valueOf (array d k) k o t)) s p
     → accepted l q ≡ run (times n (valueOf (array d k) k 0 t)) s p
 unfolding valueOf array
 items-anywhere zero k o t n s p e = shallow-again k o n s p (ltb 0 (scalarWidth t)) (eqb t 8) _ _ e
