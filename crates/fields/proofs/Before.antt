@@ -1,5 +1,6 @@
--- The byte order of texts is one: no text comes before itself, of two texts at most one comes before the other and only equal ones neither way, and what
--- comes after a text comes after all that the text comes after. Assumes nothing.
+-- The byte order of texts is one: no text comes before itself, of two texts at most one comes
+-- before the other and only equal ones neither way, and what comes after a text comes after all
+-- that the text comes after. Assumes nothing.
 use Prim.Native.Nat.{ℕ, _<_}
 use mathlib.Core.Path.{_≡_, refl, sym, subst, _∙_}
 use mathlib.Core.Bool.{Bool, true, false}

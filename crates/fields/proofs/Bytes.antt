@@ -1,4 +1,5 @@
--- A number as bytes, at every width and in both orders: read back what was written, and written again what was read. Assumes nothing.
+-- A number as bytes, at every width and in both orders: read back what was written, and written
+-- again what was read. Assumes nothing.
 use Prim.Native.Nat.{ℕ, zero, suc, _+_, _-_, _*_, _/_, _%_, _^_, _≤_, _<_}
 use mathlib.Core.Path.{_≡_, refl, sym, ap, _∙_}
 use mathlib.Core.List.{List, [], _∷_, _++_, reverse, append-assoc, reverse-cons, reverse-reverse}
@@ -53,7 +54,8 @@ pub spot-little : {big : Bool} (w n : ℕ) → big ≡ false → w - 1 - n ≡ s
 unfolding spot
 spot-little w n h = rw h
 
--- what is left to do, from w bytes of which n are to be written, x the number that they hold: o is what was written so far
+-- what is left to do, from w bytes of which n are to be written, x the number that they hold: o is
+-- what was written so far
 pub rest : Bool → ℕ → ℕ → ℕ → List ℕ → List ℕ
 rest true w n x o = reverse (little n x) ++ drop n o
 rest false w n x o = take (w - n) o ++ (little n x ++ drop w o)

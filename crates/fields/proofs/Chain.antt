@@ -1,4 +1,5 @@
--- A chain of writers: each lends the rest of its output, from the middle, to the next. Assumes nothing.
+-- A chain of writers: each lends the rest of its output, from the middle, to the next. Assumes
+-- nothing.
 use Prim.Native.Nat.{ℕ, _+_, _-_}
 use mathlib.Core.Path.{_≡_, ap, _∙_}
 use mathlib.Core.List.{List, _++_, append-assoc, append-nil}

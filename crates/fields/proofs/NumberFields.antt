@@ -1,6 +1,5 @@
--- The laws of reading back: one for each constructor of a program, one for a number, and one for a list. Assumes nothing.
--- What a reader with ceilings answers, from the marks and the answer of the whole format's reader. Assumes nothing.
--- What is sure of whatever a program accepts: one law for each constructor of a program, one for a number, and one for a repetition. Assumes nothing.
+-- A number as a field of a program: it has no mark, it reads back from its bytes, and it ends right
+-- after them. Assumes nothing.
 use Prim.Native.Nat.{ℕ, _+_, _^_, _≤_, _<_}
 use mathlib.Core.Path.{_≡_, refl, sym, ap, _∙_}
 use mathlib.Core.List.{List}

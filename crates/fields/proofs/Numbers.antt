@@ -1,4 +1,5 @@
--- A number at a place, at every width and in both orders: the field, and its bytes taken one at a time, the greatest first. Assumes nothing.
+-- A number at a place, at every width and in both orders: the field, and its bytes taken one at a
+-- time, the greatest first. Assumes nothing.
 use Prim.Native.Nat.{ℕ, zero, suc, _+_, _*_, _^_, _≤_, _<_}
 use mathlib.Core.Path.{_≡_, refl, sym, ap, _∙_}
 use mathlib.Core.List.{List, [], _∷_, _++_, reverse, reverse-append}

@@ -1,8 +1,4 @@
--- What it is to read back: bytes that stand at a place, and a program that reads there what they say.
 -- A number as bytes, at every width and in both orders; and what a writer leaves of its output.
--- What records say, without their places; the bytes that say it; and what stands at the places of what was read.
---
--- Beside each form of `Format` stand its bytes and its view, with the same fields in the same order.
 use Prim.Native.Nat.{ℕ, _<_, zero, suc, _/_, _%_, _^_}
 use mathlib.Core.Path.{_≡_}
 use mathlib.Core.List.{List, [], _∷_, _++_}

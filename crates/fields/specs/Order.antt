@@ -5,7 +5,8 @@ use mathlib.Core.List.{List, [], _∷_}
 use lib.Dec.{ltb, eqb}
 use Rattle.reading.specs.Choice.{if_then_else_}
 
--- whether one text comes before another: at the first byte where they differ it has the lesser one, or it is the other's front and shorter
+-- whether one text comes before another: at the first byte where they differ it has the lesser one,
+-- or it is the other's front and shorter
 abbrev pub before : List ℕ → List ℕ → Bool
 before [] [] = false
 before [] (y ∷ ys) = true

@@ -1,8 +1,8 @@
-// Numbers and bytes at a place of a slice, in either byte order: read where they are wholly there, and written into what
-// the caller lends.
+// Numbers and bytes at a place of a slice, in either byte order: read where they are wholly there,
+// and written into what the caller lends.
 //
-// `number_at` reads every width, and `put_number` writes every width, in either order. With a known width and order the
-// sums of bytes that it is made of compile to one load (and a swap).
+// `number_at` reads every width, and `put_number` writes every width, in either order. With a known
+// width and order the sums of bytes that it is made of compile to one load (and a swap).
 ghost use Prim.Native.Nat.{_+_, _<_, _^_, _≤_};
 ghost use lib.ListN.{drop, length, replicate, take};
 ghost use mathlib.Core.Bool.{false, true};

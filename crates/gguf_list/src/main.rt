@@ -1,7 +1,8 @@
-// Lists the header of a model file: reads up to 64 KiB of it from standard input and writes its listing to standard output.
+// Lists the header of a model file: reads up to 64 KiB of it from standard input and writes its
+// listing to standard output.
 //
-// The text is `listing::list`'s, whose contract fixes each byte. The buffer holds the longest one: 64 KiB of names, at most 160 other bytes
-// for each of 1024 rows, and the first line.
+// The text is `listing::list`'s, whose contract fixes each byte. The buffer holds the longest one:
+// 64 KiB of names, at most 160 other bytes for each of 1024 rows, and the first line.
 use libc::STDERR_FILENO;
 use libc::STDIN_FILENO;
 use libc::STDOUT_FILENO;

@@ -1,4 +1,5 @@
--- A header that was read has as many records as its counts say, and there were rows for them. Assumes nothing.
+-- A header that was read has as many records as its counts say, and there were rows for them.
+-- Assumes nothing.
 use Prim.Native.Nat.{ℕ, _≤_}
 use mathlib.Core.Path.{_≡_}
 use mathlib.Core.List.{List}

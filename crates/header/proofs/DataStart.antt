@@ -1,4 +1,5 @@
--- Where the data starts: refusal 18 is never the answer to a slice, since the start is at most the alignment or twice the header's end. Assumes nothing.
+-- Where the data starts: refusal 18 is never the answer to a slice, since the start is at most the
+-- alignment or twice the header's end. Assumes nothing.
 use Prim.Native.Nat.{ℕ, _+_, _-_, _%_, _^_, _≤_, _<_, max}
 use mathlib.Core.Path.{_≡_, refl, sym, _∙_}
 use mathlib.Core.List.{List, [], _∷_}
@@ -111,7 +112,8 @@ rounded-small a n h = rounded-cases a n (eqb (n % a) 0) (leb a n) h refl refl
 pub start-small : (a n : ℕ) → Alignment a → n < 2 ^ 63 → padded a n ≤ greatest
 start-small a n h short = omega (arith, h .fits, rounded-small a n (h .above))
 
--- no header in fewer than 2 ^ 63 bytes is refused for the start of its data; a slice has fewer, since owning one tells that its elements take fewer
+-- no header in fewer than 2 ^ 63 bytes is refused for the start of its data; a slice has fewer,
+-- since owning one tells that its elements take fewer
 never-overflows : (l : Limits) (rooms : Rooms) (cap : ℕ) (s : List ℕ) → length s < 2 ^ 63 → Refuses l s (λ n q. n ≡ 18 → ⊥) (header rooms cap)
 never-overflows l rooms cap s short =
     refuses-header rooms cap (λ n q h low. not-listed 18 n refl h) (λ k p. record { holds = λ n q e o low. (λ f i. omega arith, λ f i. omega arith) })

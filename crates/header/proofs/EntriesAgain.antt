@@ -1,4 +1,4 @@
--- Where the entries of a header begin, past the magic, the version and the two counts, and that they are read again there. Assumes nothing.
+-- The entries of a header that was measured are read again from where they begin. Assumes nothing.
 use Prim.Native.Nat.{ℕ}
 use mathlib.Core.Path.{_≡_, sym, ap, _∙_}
 use mathlib.Core.List.{List}
@@ -28,7 +28,8 @@ module _ (s : List ℕ) where
       sure-then (start-ends s rooms) (λ c p at. sure-then (sure-run whatever) (λ es q read. sure-then whatever (λ ts e u.
       sure-here _ (sure-then whatever (λ x o y. sure-done (q, read .1 ∙ ap (λ z. run (times (c .entries) (entry (c .dialect) cap)) s z) at))))))
 
--- all that is known where a reader tells h: the whole run, and its entries, which are there to be read again
+-- all that is known where a reader tells h: the whole run, and its entries, which are there to be
+-- read again
 pub record Again (l : Limits) (rooms : Rooms) (cap : ℕ) (s : List ℕ) (h : Header) : Type 0 where
   pub whole : FullHeader
   pub end : ℕ

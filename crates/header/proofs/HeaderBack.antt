@@ -1,4 +1,5 @@
--- A header that was written reads back: its sheet, its alignment, its end and the start of its data, in every version and byte order. Assumes nothing.
+-- A header that was written reads back: its sheet, its alignment, its end and the start of its
+-- data, in every version and byte order. Assumes nothing.
 use Prim.Native.Nat.{ℕ, _+_, _≤_}
 use mathlib.Core.Path.{_≡_, sym, ap, subst, _∙_}
 use mathlib.Core.List.{List, [], _++_, map, append-assoc, append-nil}

@@ -1,4 +1,5 @@
--- A reader with ceilings answers what the reader of the whole format does, up to the first version or kind above them. Assumes nothing.
+-- A reader with ceilings answers what the reader of the whole format does, up to the first version
+-- or kind above them. Assumes nothing.
 use Prim.Native.Nat.{ℕ, _≤_}
 use mathlib.Core.Path.{_≡_, sym, ap, _∙_}
 use mathlib.Core.List.{List}
@@ -33,7 +34,8 @@ abbrev pub tabled : ℕ → List (List ℕ) → List (List ℕ) → Reading Full
 tabled cap es ts = header (record { entries = length es; tensors = length ts }) cap
 
 module _ (cap : ℕ) (es ts : List (List ℕ)) (s : List ℕ) where
-  -- with any ceilings the reader refuses at the first version or kind above them, if there is one, and else answers what the format's own program does
+  -- with any ceilings the reader refuses at the first version or kind above them, if there is one,
+  -- and else answers what the format's own program does
   pub up-to-ceilings : (l : Limits) → readerRun l cap es ts s ≡ orTooNew l (marks (tabled cap es ts) s 0) (run (tabled cap es ts) s 0)
   up-to-ceilings l = ceilings l (tabled cap es ts) s 0
 
@@ -45,7 +47,8 @@ module _ (cap : ℕ) (es ts : List (List ℕ)) (s : List ℕ) where
   pub full-reader : readerRun full cap es ts s ≡ run (tabled cap es ts) s 0
   full-reader = no-ceilings full (omega arith) (omega arith)
 
-  -- and a reader with any ceilings what the full reader does, up to the first version or kind above them
+  -- and a reader with any ceilings what the full reader does, up to the first version or kind above
+  -- them
   pub below-ceilings : (l : Limits) → readerRun l cap es ts s ≡ orTooNew l (marks (tabled cap es ts) s 0) (readerRun full cap es ts s)
   below-ceilings l = up-to-ceilings l ∙ ap (orTooNew l (marks (tabled cap es ts) s 0)) (sym full-reader)
 

@@ -1,4 +1,5 @@
--- Rows that were kept while a list was tested: they stand at the front of their table, and a copy of them fills another. Assumes nothing.
+-- Rows that were kept while a list was tested: they stand at the front of their table, and a copy
+-- of them fills another. Assumes nothing.
 use Prim.Native.Nat.{ℕ}
 use mathlib.Core.Path.{_≡_, refl, sym, ap, _∙_}
 use mathlib.Core.List.{List, _++_, map}

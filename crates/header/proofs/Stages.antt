@@ -1,4 +1,5 @@
--- The whole run after each of its stages: the start, the entries, the tensors, and the start of the data. Assumes nothing.
+-- The whole run after each of its stages: the start, the entries, the tensors, and the start of the
+-- data. Assumes nothing.
 use Prim.Native.Nat.{ℕ}
 use mathlib.Core.Path.{_≡_, refl, sym, ap, _∙_}
 use mathlib.Core.List.{List}

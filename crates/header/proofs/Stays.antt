@@ -1,4 +1,5 @@
--- What more bytes may change: nothing, once the answer is any other than refusal 1. Assumes nothing.
+-- What more bytes may change: nothing, once the answer is any other than refusal 1. Assumes
+-- nothing.
 use Prim.Native.Nat.{ℕ}
 use mathlib.Core.Path.{_≡_, ap}
 use mathlib.Core.List.{List, _++_}

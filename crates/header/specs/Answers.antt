@@ -1,4 +1,5 @@
--- What the code's answers say, and what a whole call of a reader comes to: an answer and two tables, from one run.
+-- What the code's answers say, and what a whole call of a reader comes to: an answer and two
+-- tables, from one run.
 use Prim.Native.Nat.{ℕ}
 use mathlib.Core.Path.{_≡_}
 use mathlib.Core.List.{List}
@@ -28,7 +29,8 @@ asHeader (NoHeader n p) = refused n p
 abbrev pub headerIfItFits : Start → ℕ → ℕ → HeaderRead
 headerIfItFits c a e = if leb (padded a e) greatest then FoundHeader (headerOf c a e) else NoHeader 18 e
 
--- the run that a call comes from: the reader's ceilings and cap, the tables as they were, and the bytes
+-- the run that a call comes from: the reader's ceilings and cap, the tables as they were, and the
+-- bytes
 abbrev pub readerRun : Limits → ℕ → List (List ℕ) → List (List ℕ) → List ℕ → Answer FullHeader
 readerRun limits cap entries tensors s = run (under limits (header (record { entries = length entries; tensors = length tensors }) cap)) s 0
 
@@ -38,7 +40,8 @@ pub record Outcome : Type 0 where
   pub entries : List (List ℕ)
   pub tensors : List (List ℕ)
 
--- where the run accepted, the header, and a row for each record in front of each table; at a refusal, the tables as they were
+-- where the run accepted, the header, and a row for each record in front of each table; at a
+-- refusal, the tables as they were
 abbrev pub outcomeOf : List (List ℕ) → List (List ℕ) → Answer FullHeader → Outcome
 outcomeOf entries tensors r =
     record {

@@ -1,4 +1,5 @@
--- What a whole header says, without its places; the bytes that say it; and what a reader finds in them.
+-- What a whole header says, without its places; the bytes that say it; and what a reader finds in
+-- them.
 use Prim.Native.Nat.{ℕ, suc, _≤_}
 use mathlib.Core.Path.{_≡_}
 use mathlib.Core.Bool.{true}
@@ -53,7 +54,8 @@ alignmentIn es = fold latestContent 32 es
 
 -- What a reader finds.
 
--- all that is told of a header: its version and byte order, its sheet, its alignment, where it ends and where its data starts
+-- all that is told of a header: its version and byte order, its sheet, its alignment, where it ends
+-- and where its data starts
 pub record Summary : Type 0 where
   pub dialect : Dialect
   pub sheet : Contents
@@ -78,10 +80,12 @@ dialectOf w = dialectIn (w .head)
 abbrev pub contentsOf : List ℕ → FullHeader → Contents
 contentsOf s w = record { entries = map (entryContent (dialectOf w) s) (w .entries); tensors = map (tensorContent s) (w .tensors) }
 
+-- what was read, summed up with what stands at its places
 abbrev pub summaryIn : List ℕ → FullHeader → Summary
 summaryIn s w = record { dialect = dialectOf w; sheet = contentsOf s w; alignment = w .head .alignment; end = w .head .end; start = w .head .start }
 
--- What can be written: each number fits its field, there are rows for all records, and the start of the data fits 64 bits.
+-- What can be written: each number fits its field, there are rows for all records, and the start of
+-- the data fits 64 bits.
 pub record FitsContents (rooms : Rooms) (k : Dialect) (c : Contents) : Type 0 where
   pub version : knownVersion (k .version) ≡ true
   pub entryCount : Within (sizeWidth k) (length (c .entries))

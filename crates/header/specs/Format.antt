@@ -1,9 +1,7 @@
--- The whole header: magic, version, the two counts, the entries, the tensors, the alignment, and where the data starts.
+-- The whole header: what stands before the records, the entries, the tensors, the alignment, and
+-- where the data starts.
 --
--- It goes in the order of the file; each check comes as soon as its field is read. The refusals, beside those of the records:
---    2  the magic of an older format; 3 any other magic that is not this one's; both at 0
---    4  a version other than 1, 2 and 3, at the version; `mark` says that one was found known (5 above a reader's ceiling)
---    6  more tensors, or more entries, than rows, at that count, once both are read
+-- It goes in the order of the file. The refusal beside those of its parts:
 --   18  a data offset above 2 ^ 64 - 1, at the header's end, last of all
 use Prim.Native.Nat.{ℕ, _%_}
 use mathlib.Core.Bool.{Bool, false}

@@ -1,4 +1,5 @@
--- What the reader's private steps are held to: rows that are kept while a header is tested, and tensors that are read again. No contract of a public function cites it.
+-- What the reader's private steps are held to: rows that are kept while a header is tested. No
+-- contract of a public function cites it.
 use Prim.Native.Nat.{ℕ, _≤_}
 use mathlib.Core.Path.{_≡_}
 use mathlib.Core.List.{List}
@@ -8,6 +9,7 @@ use Rattle.reading.specs.Each.{filled}
 use Rattle.values.specs.Rows.{entryRow}
 use Rattle.values.specs.declared.Entry.{Entry}
 
--- a table with n rows or more has the rows of what was read at its front: to write them there changes nothing
+-- a table with n rows or more has the rows of what was read at its front: to write them there
+-- changes nothing
 abbrev pub Keeps : ℕ → List (List ℕ) → Answer (List Entry) → Type 0
 Keeps n kept r = n ≤ length kept → kept ≡ filled entryRow kept r

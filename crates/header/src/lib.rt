@@ -1,14 +1,16 @@
 // The header of a model file, read from a prefix of it into two lent tables of rows.
 //
-// `read` checks the whole header first and fills the tables then, so that a refusal finds them as they were. Nothing is
-// allocated. The rows of a short list of entries are kept meanwhile, so that it is read once; a longer one is read twice.
-// Tensors are read twice, and the second time nothing is tested. `measure` checks a header and fills nothing.
+// `read` checks the whole header first and fills the tables then, so that a refusal finds them as
+// they were. Nothing is allocated. The rows of a short list of entries are kept meanwhile, so that
+// it is read once; a longer one is read twice. Tensors are read twice, and the second time nothing
+// is tested. `measure` checks a header and fills nothing.
 use fields::Number;
 use kinds::Bounded;
 use reading::Limits;
 use rows::ENTRY_WORDS;
 use rows::EntryRow;
 use rows::TensorRow;
+use scalars::Natural;
 use start::Rooms;
 use start::Start;
 use start::StartRead;
@@ -17,7 +19,6 @@ use values::Dialect;
 use values::Entry;
 use values::EntryRead;
 use values::Passed;
-use scalars::Natural;
 use values::Value;
 ghost use Prim.Native.Nat.{_≤_};
 ghost use lib.ListN.{drop, length, take};
@@ -72,13 +73,7 @@ fn usable(n: Natural) -> u64
 {
     match n {
         Natural::None => 32,
-        Natural::Number { value } => {
-            if is_alignment(value) {
-                value
-            } else {
-                32
-            }
-        }
+        Natural::Number { value } => { if is_alignment(value) { value } else { 32 } }
     }
 }
 
@@ -152,7 +147,8 @@ fn pass_tensors(s: &[u8], at: usize, n: u64, dialect: Dialect, limits: Limits) -
     Passed::To { next: from }
 }
 
-// Reads n entries into as many rows. Where one is refused the rows before it are written: the table is the caller's own, or all are known to be there.
+// Reads n entries into as many rows. Where one is refused the rows before it are written: the table
+// is the caller's own, or all are known to be there.
 fn list_entries(
     s: &[u8],
     at: usize,
@@ -311,7 +307,8 @@ pub fn measure(s: &[u8], limits: Limits, cap: u64, rooms: Rooms) -> HeaderRead
     }
 }
 
-// Writes the rows of a header that is all there: its entries stand from p on, its tensors from q on.
+// Writes the rows of a header that is all there: its entries stand from p on, its tensors from q
+// on.
 fn fill(
     s: &[u8],
     p: usize,
@@ -334,7 +331,8 @@ fn fill(
     fill_tensors(s, q, start.tensors as usize, dialect, tensors);
 }
 
-// Reads a header and lists its entries and its tensors, a row each, in the order of the file. Where it refuses, both tables stay as they were.
+// Reads a header and lists its entries and its tensors, a row each, in the order of the file. Where
+// it refuses, both tables stay as they were.
 pub fn read(
     s: &[u8],
     limits: Limits,

@@ -1,5 +1,5 @@
--- The table row after row: a test over its kinds that the checker computes. It shows what a range, an arm and the rest of a match hold, that what is written is known, and that
--- blocks are small.
+-- The table row after row: a test over its kinds that the checker computes. It shows what a range,
+-- an arm and the rest of a match hold, that what is written is known, and that blocks are small.
 -- Assumes nothing.
 use mathlib.Core.Path.{_≡_, refl, sym, ap}
 use mathlib.Core.Bool.{Bool, true, false, _&&_, _||_}
@@ -13,8 +13,7 @@ use mir.Val.{hasKey}
 use mir.Facts.{and-yes, or-yes}
 use types.Run.{OneOf, hit}
 use borrow.Author.Tests.{ltb-true, ltb-false}
-use Rattle.kinds.specs.declared.Block.{Block}
-use Rattle.kinds.specs.Table.{block, noKind, kindTable, blockOf, knownKind, writtenKind}
+use Rattle.kinds.specs.Table.{noKind, kindTable, blockOf, knownKind, writtenKind}
 
 -- the test f passes at each number below n
 abbrev every : (ℕ → Bool) → ℕ → Bool
@@ -77,7 +76,8 @@ not-keyed (ks ∷ arms) N x l t =
       | inr h ↦ not-keyed arms (N × (OneOf ks x → ⊥)) x l h
     ]
 
--- where each kind of the table whose block takes bytes is a key, the block of what is left over takes none
+-- where each kind of the table whose block takes bytes is a key, the block of what is left over
+-- takes none
 module _ (arms : List (List ℕ)) where
   abbrev covered : ℕ → Bool
   covered k = keyed arms k || eqb 0 (blockOf k .bytes)

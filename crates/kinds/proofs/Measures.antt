@@ -1,5 +1,5 @@
--- The size of a tensor by its tests, one after the other: its kind, the product of its shape, its bytes.
--- Assumes nothing.
+-- The size of a tensor by its tests, one after the other: its kind, the product of its shape, its
+-- bytes. Assumes nothing.
 use Prim.Native.Nat.{ℕ, _*_, _/_, _≤_, _<_}
 use mathlib.Core.Path.{_≡_, sym}
 use mathlib.Core.Bool.{true, false}

@@ -1,5 +1,5 @@
--- Products of 64 bits: when one fits, what is answered of it, and the products of a shape's lengths one after the other.
--- Assumes nothing.
+-- Products of 64 bits: when one fits, what is answered of it, and the products of a shape's lengths
+-- one after the other. Assumes nothing.
 use Prim.Native.Nat.{ℕ, _*_, _/_, _≤_, _<_, _^_}
 use mathlib.Core.Path.{_≡_, refl, _∙_}
 use mathlib.Core.Bool.{Bool, true, false}

@@ -1,4 +1,5 @@
--- The product of a shape's lengths, and the bytes of a tensor of that shape and a kind. Each number must fit 64 bits.
+-- The product of a shape's lengths, and the bytes of a tensor of that shape and a kind. Each number
+-- must fit 64 bits.
 use Prim.Native.Nat.{ℕ, _*_, _/_, _^_, _-_}
 use mathlib.Core.Bool.{Bool, true, false}
 use mathlib.Core.List.{List, [], _∷_}

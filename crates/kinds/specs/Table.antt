@@ -1,4 +1,5 @@
--- The kinds of tensor data: how many numbers a block of each holds, and how many bytes the block takes.
+-- The kinds of tensor data: how many numbers a block of each holds, and how many bytes the block
+-- takes.
 use Prim.Native.Nat.{ℕ}
 use mathlib.Core.Bool.{Bool}
 use mathlib.Core.List.{List, [], _∷_}

@@ -8,7 +8,8 @@ ghost use Rattle.kinds.specs.Table.{block, blockOf, knownKind, writtenKi
 ghost use Rattle.kinds.specs.Shape.{greatest, productOf, productsFit, boundedProduct, measureOf};
 ghost use Rattle.kinds.specs.declared.Bounded.the-variants.{Fits, Over};
 
-// How many numbers a block of a kind holds, and how many bytes it takes. A block of no numbers: there is no such kind.
+// How many numbers a block of a kind holds, and how many bytes it takes. A block of no numbers:
+// there is no such kind.
 pub struct Block {
     pub numbers: u64,
     pub bytes: u64,
@@ -42,8 +43,8 @@ fn block_size(kind: u64) -> u64
     }
 }
 
-// How many bytes a block of a kind takes: none where a kind is never written, and where a number names no kind. Single numbers make
-// the match one look into a table.
+// How many bytes a block of a kind takes: none where a kind is never written, and where a number
+// names no kind. Single numbers make the match one look into a table.
 fn type_size(kind: u64) -> u64
     ensures { λ r. ⌜ r ≡ blockOf kind .bytes ⌝ }
 {
@@ -102,7 +103,8 @@ pub fn is_written(kind: u64) -> bool
     0 < type_size(kind)
 }
 
-// The product of two numbers, where it fits. It is made where one factor is 0 or 1, or after a division has shown that it fits.
+// The product of two numbers, where it fits. It is made where one factor is 0 or 1, or after a
+// division has shown that it fits.
 fn times(a: u64, b: u64) -> Bounded
     ensures { λ r. ⌜ r ≡ (if leb (a * b) greatest then Fits (a * b) else Over) ⌝ }
 {
@@ -136,7 +138,8 @@ pub fn known_product(shape: [u64; 4]) -> u64
     shape[0] * shape[1] * shape[2] * shape[3]
 }
 
-// Whether the bytes of so many numbers of a kind fit 64 bits. No block takes 512 bytes, so of fewer than 2 ^ 55 numbers they do.
+// Whether the bytes of so many numbers of a kind fit 64 bits. No block takes 512 bytes, so of fewer
+// than 2 ^ 55 numbers they do.
 pub fn fits(numbers: u64, kind: u64) -> bool
     ensures { λ r. ⌜ r ≡ leb (numbers * blockOf kind .bytes) greatest ⌝ }
 {
@@ -149,7 +152,8 @@ pub fn fits(numbers: u64, kind: u64) -> bool
     }
 }
 
-// The bytes of so many numbers in such blocks, rounded down, and 0 in blocks of no numbers: for callers that know that they fit.
+// The bytes of so many numbers in such blocks, rounded down, and 0 in blocks of no numbers: for
+// callers that know that they fit.
 pub fn bytes_in(numbers: u64, block: Block) -> u64
     requires { ⌜ numbers * block .bytes ≤ greatest ⌝ }
     ensures { λ r. ⌜ r ≡ numbers * block .bytes / block .numbers ⌝ }

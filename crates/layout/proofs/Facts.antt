@@ -1,4 +1,5 @@
--- What a mapper relies on: the offsets of an accepted list are the least that keep the order, the alignment and the space of each tensor. Assumes nothing.
+-- What a mapper relies on: the offsets of an accepted list are the least that keep the order, the
+-- alignment and the space of each tensor. Assumes nothing.
 use Prim.Native.Nat.{ℕ, zero, suc, _+_, _%_, _≤_, _<_}
 use mathlib.Core.Path.{_≡_, refl, ap}
 use mathlib.Core.List.{List, [], _∷_}

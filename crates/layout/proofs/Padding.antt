@@ -1,4 +1,5 @@
--- The least multiple not below a number: how it is worked out, and what makes it the least. Assumes nothing.
+-- The least multiple not below a number: how it is worked out, and what makes it the least. Assumes
+-- nothing.
 use Prim.Native.Nat.{ℕ, suc, _+_, _-_, _*_, _/_, _%_, _≤_, _<_}
 use mathlib.Core.Path.{_≡_, ap, _∙_}
 use native.Mathlib.Omega.{arith}

@@ -1,4 +1,5 @@
--- What any placement of tensors has to keep, ours or another: the order, the alignment, and no two at the same place.
+-- What any placement of tensors has to keep, ours or another: the order, the alignment, and no two
+-- at the same place.
 use Prim.Native.Nat.{ℕ, suc, _+_, _%_, _≤_, _<_}
 use mathlib.Core.Path.{_≡_}
 use mathlib.Core.List.{List, map}

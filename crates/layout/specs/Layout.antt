@@ -1,10 +1,10 @@
--- Where tensors go, from the public GGUF document: the first offset is 0, each next one is the least multiple of the alignment that is not below the
--- end of the tensor before it, and the last end is padded too. Every number on the way must fit 64 bits.
+-- Where tensors go, from the public GGUF document: the first offset is 0, each next one is the
+-- least multiple of the alignment that is not below the end of the tensor before it, and the last
+-- end is padded too. Every number on the way must fit 64 bits.
 use Prim.Native.Nat.{ℕ, suc, _+_}
-use mathlib.Core.Bool.{Bool}
 use mathlib.Core.List.{List, [], _∷_}
 use lib.Dec.{leb}
-use Rattle.reading.specs.Choice.{if_then_else_, require}
+use Rattle.reading.specs.Choice.{require}
 use Rattle.kinds.specs.Table.{writtenKind}
 use Rattle.kinds.specs.Shape.{greatest, productOf, productsFit, sizeFits, sizeOf}
 use Rattle.layout.specs.Padding.{padded}
@@ -24,7 +24,8 @@ endAfter laid shape kind = laid .next + sizeOf shape kind
 abbrev pub laidAfter : ℕ → Laid → List ℕ → ℕ → Laid
 laidAfter a laid shape kind = record { total = laid .total + productOf shape; next = padded a (endAfter laid shape kind) }
 
--- the place of the next tensor, at the alignment a, of a shape and a kind: the tests in their order, and what is laid then
+-- the place of the next tensor, at the alignment a, of a shape and a kind: the tests in their
+-- order, and what is laid then
 unfoldable pub placeOf : ℕ → Laid → List ℕ → ℕ → Placed
 placeOf a laid shape kind =
     require (writtenKind kind) (Refused 35)
@@ -40,7 +41,8 @@ pub record Piece : Type 0 where
   pub lengths : List ℕ
   pub kind : ℕ
 
--- what a list of them comes to: the offset of each and what is laid at the end, or the refusal and the number of its tensor
+-- what a list of them comes to: the offset of each and what is laid at the end, or the refusal and
+-- the number of its tensor
 pub data Layout : Type 0 where
   laidOut : List ℕ → Laid → Layout
   refusedAt : ℕ → ℕ → Layout

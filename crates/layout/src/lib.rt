@@ -1,6 +1,6 @@
 // Where the data of tensors goes: offsets that are multiples of an alignment.
-use kinds::Measure;
 use kinds::Bounded;
+use kinds::Measure;
 ghost use mathlib.Core.Path.{_≡_};
 ghost use Rattle.layout.specs.Padding.{paddedOf};
 ghost use Rattle.layout.specs.Layout.{placeOf};
@@ -8,7 +8,8 @@ ghost use Rattle.layout.specs.Layout.{placeOf};
 // The greatest number of 64 bits.
 const GREATEST: u64 = 18446744073709551615;
 
-// What is laid so far: the sum of the tensors' counts of numbers, and the offset of the next tensor, which is a multiple of the alignment.
+// What is laid so far: the sum of the tensors' counts of numbers, and the offset of the next
+// tensor, which is a multiple of the alignment.
 pub struct Laid {
     pub total: u64,
     pub next: u64,
@@ -20,7 +21,8 @@ pub enum Placed {
     Refused { why: u64 },
 }
 
-// The least multiple of an alignment that is not below n, where it fits 64 bits. Of no alignment it is n.
+// The least multiple of an alignment that is not below n, where it fits 64 bits. Of no alignment it
+// is n.
 pub fn pad(alignment: u64, n: u64) -> Bounded
     ensures { λ r. ⌜ r ≡ paddedOf alignment n ⌝ }
 {
@@ -38,7 +40,8 @@ pub fn pad(alignment: u64, n: u64) -> Bounded
     Bounded::Fits { value: n + gap }
 }
 
-// The place of the next tensor, after what is laid: its kind, its products, its size, the sum of products, and its end with the padding are tested in this order.
+// The place of the next tensor, after what is laid: its kind, its products, its size, the sum of
+// products, and its end with the padding are tested in this order.
 pub fn place(laid: Laid, shape: [u64; 4], kind: u64, alignment: u64) -> Placed
     ensures { λ r. ⌜ r ≡ placeOf alignment laid shape kind ⌝ }
 {

@@ -3,14 +3,11 @@ use Prim.Native.Nat.{ℕ, zero, suc}
 use mathlib.Core.Path.{_≡_, refl, sym, ap, _∙_}
 use mathlib.Core.List.{List, [], _∷_, _++_, append-assoc, append-nil}
 use native.Mathlib.Omega.{arith}
-use lib.Dec.{ltb}
-use lib.ListN.{take, getD}
+use lib.ListN.{take}
 use lib.Seq.{take-all}
 use borrow.Author.Tests.{lt-ltb}
 use Rattle.reading.specs.Back.{bytesOfAll}
-use Rattle.reading.specs.Choice.{if_then_else_}
-use Rattle.text_out.specs.Words.{labelled}
-use Rattle.listing.specs.Text.{space, furtherText, lengthsText}
+use Rattle.listing.specs.Text.{furtherText, lengthsText}
 use Rattle.listing.specs.Steps.{firstText, furtherOf, planeText}
 use Rattle.rows.specs.Columns.{word, dimensionsIn, lengthsIn}
 

@@ -2,7 +2,6 @@
 use Prim.Native.Nat.{ℕ}
 use mathlib.Core.List.{List, [], _∷_, _++_}
 use lib.Dec.{ltb}
-use lib.ListN.{getD}
 use Rattle.reading.specs.Choice.{if_then_else_}
 use Rattle.text_out.specs.Words.{labelled}
 use Rattle.listing.specs.Text.{space}

@@ -3,13 +3,13 @@
 //
 // Every writer here puts its text at the front of what it is lent, as much of it as there is room
 // for, and answers how many bytes that is (crates/text_out).
-use reading::Limits;
 use header::Header;
 use header::HeaderRead;
 use key_order::LastKey;
 use key_order::NextKey;
 use key_order::name_in;
 use key_order::next_key;
+use reading::Limits;
 use rows::DIMENSIONS;
 use rows::EntryRow;
 use rows::FIRST_LENGTH;

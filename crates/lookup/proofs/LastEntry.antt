@@ -1,4 +1,5 @@
--- What is folded over a list that was read, from what is seen of it and of a part that is left. Assumes nothing.
+-- What is folded over a list that was read, from what is seen of it and of a part that is left.
+-- Assumes nothing.
 use Prim.Native.Nat.{ℕ}
 use mathlib.Core.Path.{_≡_, ap, _∙_}
 use mathlib.Core.List.{List, []}

@@ -1,4 +1,5 @@
--- Questions about a header: the value of a key, the string of a key, the file's type. Of equal keys the last decides.
+-- Questions about a header: the value of a key, the string of a key, the file's type. Of equal keys
+-- the last decides.
 use Prim.Native.Nat.{ℕ}
 use mathlib.Core.List.{List, [], _∷_}
 use Rattle.reading.specs.Choice.{if_then_else_}
@@ -49,12 +50,14 @@ stringOf s (Found e) = stringIn s (e .value)
 stringOf s Absent = []
 stringOf s (Refused n p) = []
 
--- what tells them apart: 0 a string, 100 absent, 101 another type, else the refusal's number with its place
+-- what tells them apart: 0 a string, 100 absent, 101 another type, else the refusal's number with
+-- its place
 abbrev pub typeStatus : Value → List ℕ
 typeStatus (Single x) = 101 ∷ 0 ∷ []
 typeStatus (Text a) = 0 ∷ 0 ∷ []
 typeStatus (Array a) = 101 ∷ 0 ∷ []
 
+-- what a string question answers of a lookup, beside the string: two words
 abbrev pub stringStatus : Lookup → List ℕ
 stringStatus (Found e) = typeStatus (e .value)
 stringStatus Absent = 100 ∷ 0 ∷ []

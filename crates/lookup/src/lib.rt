@@ -1,14 +1,16 @@
-// Questions that people ask of a header: the value of a key, the string of a key, the model's family, the file's type.
+// Questions that people ask of a header: the value of a key, the string of a key, the model's
+// family, the file's type.
 //
-// Each question reads the whole header, with the ceilings of the whole format and rows for any count, so that a bad tensor refuses the
-// lookup of a good key. A string comes back as the part of the prefix that holds it.
-use reading::Limits;
+// Each question reads the whole header, with the ceilings of the whole format and rows for any
+// count, so that a bad tensor refuses the lookup of a good key. A string comes back as the part of
+// the prefix that holds it.
 use header::HeaderRead;
+use reading::Limits;
+use scalars::Natural;
 use start::Rooms;
 use values::Dialect;
 use values::Entry;
 use values::EntryRead;
-use scalars::Natural;
 use values::Span;
 use values::Value;
 ghost use mathlib.Core.Path.{_≡_};
@@ -40,7 +42,8 @@ pub enum FileTypeRead {
     Refused { why: u64, place: usize },
 }
 
-// The first word of what a string question tells, beside refusals' numbers: a string, no such key, a value of another type.
+// The first word of what a string question tells, beside refusals' numbers: a string, no such key,
+// a value of another type.
 pub const TOLD_STRING: u64 = 0;
 
 pub const TOLD_ABSENT: u64 = 100;
@@ -113,7 +116,8 @@ pub fn find(s: &[u8], key: &[u8]) -> Lookup
     }
 }
 
-// The string that a lookup found, as the part of the prefix that holds it; an empty part where it found none.
+// The string that a lookup found, as the part of the prefix that holds it; an empty part where it
+// found none.
 pub fn string_of(s: &[u8], found: Lookup) -> &[u8]
     ensures { λ r. ⌜ now r ≡ questions.stringOf (now (s .entry)) found ⌝ }
 {

@@ -1,4 +1,5 @@
--- The test of the counts, with a greatest count that leaves room for an entry that is added. Assumes nothing.
+-- The test of the counts, with a greatest count that leaves room for an entry that is added.
+-- Assumes nothing.
 use Prim.Native.Nat.{ℕ, _+_, _≤_, _<_, max}
 use mathlib.Core.Path.{_≡_, refl}
 use mathlib.Core.Bool.{Bool, true, false}

@@ -1,5 +1,5 @@
--- What a draft tells of a sheet that is well formed: its lists, how long its header is, and what the tests of the counts and of the room say of it.
--- Assumes nothing.
+-- What a draft tells of a sheet that is well formed: its lists, how long its header is, and what
+-- the tests of the counts and of the room say of it. Assumes nothing.
 use Prim.Native.Nat.{ℕ, _+_, _-_, _≤_, _<_}
 use mathlib.Core.Path.{_≡_, refl, sym, ap, subst, _∙_}
 use mathlib.Core.Bool.{Bool, true, false}

@@ -1,4 +1,5 @@
--- How long values of a sheet are as values of a header, from the places between which they stand: their items are not looked at. Assumes nothing.
+-- How long values of a sheet are as values of a header, from the places between which they stand:
+-- their items are not looked at. Assumes nothing.
 use Prim.Native.Nat.{ℕ, zero, suc, _+_, _-_, _*_, _≤_}
 use mathlib.Core.Path.{_≡_, refl, sym, ap, subst, _∙_}
 use mathlib.Core.Bool.{true, false}

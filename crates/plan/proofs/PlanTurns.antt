@@ -1,5 +1,5 @@
--- The turns of loops over a sheet's entries and its tensors, which are all there: what is taken from a room, what is said of the alignment, and what is laid.
--- Assumes nothing.
+-- The turns of loops over a sheet's entries and its tensors, which are all there: what is taken
+-- from a room, what is said of the alignment, and what is laid. Assumes nothing.
 use Prim.Native.Nat.{ℕ, suc, _+_, _-_, _*_, _≤_, _<_}
 use mathlib.Core.Path.{_≡_, refl, sym, ap, subst, _∙_}
 use mathlib.Core.Bool.{true}

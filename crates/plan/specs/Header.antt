@@ -1,4 +1,5 @@
--- The header that a sheet becomes: its entries with the alignment's own where that is added, and its tensors with their offsets.
+-- The header that a sheet becomes: its entries with the alignment's own where that is added, and
+-- its tensors with their offsets.
 use Prim.Native.Nat.{ℕ}
 use mathlib.Core.Bool.{Bool, false, not}
 use mathlib.Core.List.{List, [], _∷_, map}
@@ -44,6 +45,7 @@ abbrev pub inserted : ℕ → List EntryContent → List EntryContent
 inserted a [] = alignmentEntry a ∷ []
 inserted a (e ∷ es) = if before alignmentKey (e .key) then alignmentEntry a ∷ e ∷ es else e ∷ inserted a es
 
+-- the content of a metadata entry, without its places
 abbrev pub entryIn : SheetEntry → EntryContent
 entryIn e = e .content
 
@@ -51,6 +53,8 @@ entryIn e = e .content
 abbrev pub entriesWith : Bool → ℕ → List SheetEntry → List EntryContent
 entriesWith adding a es = if adding then inserted a (map entryIn es) else map entryIn es
 
+-- the entries of the header at the alignment a: the sheet's, and the alignment's own where it is
+-- added
 abbrev pub entriesOf : ℕ → List SheetEntry → List EntryContent
 entriesOf a es = entriesWith (adds a (ownAlignment es)) a es
 
@@ -58,6 +62,7 @@ entriesOf a es = entriesWith (adds a (ownAlignment es)) a es
 abbrev pub pieceOf : SheetTensor → Piece
 pieceOf t = record { lengths = lengths (t .parts .shape); kind = t .parts .kind }
 
+-- a tensor as it is written at an offset
 abbrev pub contentAt : SheetTensor → ℕ → TensorContent
 contentAt t offset = contentOf (t .name) (t .parts .shape) (t .parts .kind) offset
 
@@ -78,6 +83,7 @@ headerContents a c = record { entries = entriesOf a (c .entries); tensors = laid
 abbrev pub endOf : Dialect → ℕ → Records → ℕ
 endOf k a c = length (headerBytes k (headerContents a c))
 
+-- where its data starts: at the next multiple of the alignment
 abbrev pub startOf : Dialect → ℕ → Records → ℕ
 startOf k a c = padded a (endOf k a c)
 

@@ -7,8 +7,8 @@
 --   35, 13, 14, 15, 36  a tensor that can't be laid, with its number
 --   37  in version 1, a count above 2 ^ 32 - 1
 --   38  an output that is shorter than the start of the data
-use Prim.Native.Nat.{ℕ, _%_, max}
-use mathlib.Core.Bool.{Bool, true, false}
+use Prim.Native.Nat.{ℕ, max}
+use mathlib.Core.Bool.{Bool, true}
 use mathlib.Core.List.{List, map}
 use lib.Dec.{leb, eqb}
 use lib.ListN.{length}
@@ -62,6 +62,7 @@ countsFit k n m = if eqb (k .version) 1 then leb (max n m) 4294967295 else true
 abbrev pub draftWith : Bool → Records → Draft
 draftWith adding c = record { entries = length (c .entries); tensors = length (c .tensors); first = c .first; adds = adding }
 
+-- the same for the alignment a, which decides whether one is added
 abbrev pub draftOf : ℕ → Records → Draft
 draftOf a c = draftWith (adds a (ownAlignment (c .entries))) c
 

@@ -1,16 +1,17 @@
-// Whether a sheet can be written as a header, and how long that header is: everything that a writer has to know before it touches its output.
+// Whether a sheet can be written as a header, and how long that header is: everything that a writer
+// has to know before it touches its output.
 use fields::Number;
 use fields::Width;
 use kinds::Bounded;
 use layout::Laid;
 use layout::Placed;
-use values::Dialect;
 use scalars::ScalarWidth;
-use values::Value;
 use sheet::Checked;
 use sheet::EntryParts;
 use sheet::TensorFound;
 use sheet::TensorParts;
+use values::Dialect;
+use values::Value;
 ghost use mathlib.Core.Path.{_≡_};
 ghost use mathlib.Core.Bool.{true, false};
 ghost use mathlib.Core.List.{map};
@@ -41,7 +42,8 @@ pub enum OwnAlignment {
     Absent,
 }
 
-// How many records a sheet has, where its tensors begin, and whether the alignment's entry is added to them.
+// How many records a sheet has, where its tensors begin, and whether the alignment's entry is added
+// to them.
 pub struct Draft {
     pub entries: usize,
     pub tensors: usize,
@@ -180,7 +182,8 @@ fn take_from(room: Room, n: usize) -> Room
     }
 }
 
-// The room without an array, as it will stand in the header: items keep their bytes there, but for the sizes of texts.
+// The room without an array, as it will stand in the header: items keep their bytes there, but for
+// the sizes of texts.
 fn array_room(room: Room, s: &[u8], at: usize, end: usize, dialect: Dialect) -> Room
     requires { ⌜ To end ≡ stepOf (run (format.array depth (format.item depth)) (now s) at) ⌝ }
     ensures { λ r. ⌜ r ≡ steps.takenFrom room (length (valueBytes (suc depth) dialect (header_of.contentRead (run (format.array depth (format.item depth)) (now (s .entry)) at)))) ⌝ }

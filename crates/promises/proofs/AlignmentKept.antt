@@ -1,4 +1,5 @@
--- The header of a sheet that can be written says the caller's alignment: by the entry that is added, by the sheet's own, or by none where it is 32. Assumes nothing.
+-- The header of a sheet that can be written says the caller's alignment: by the entry that is
+-- added, by the sheet's own, or by none where it is 32. Assumes nothing.
 use Prim.Native.Nat.{ℕ, _%_, _^_, _≤_, _<_}
 use mathlib.Core.Path.{_≡_, refl, sym, ap, subst, _∙_}
 use mathlib.Core.Bool.{Bool, true, false, not}

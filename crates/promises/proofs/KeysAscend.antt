@@ -1,4 +1,5 @@
--- The keys of a header that was written ascend strictly, the added one in its place. Assumes nothing.
+-- The keys of a header that was written ascend strictly, the added one in its place. Assumes
+-- nothing.
 use Prim.Native.Nat.{ℕ}
 use mathlib.Core.Path.{_≡_, refl, sym, ap, subst}
 use mathlib.Core.Bool.{Bool, true, false}

@@ -67,7 +67,8 @@ offsets-from a before i (t ∷ ts) {offsets} {laid} e =
         let z : _≡_ {A = ℕ} 0 1 = cc in
         absurd (omega arith)
 
--- of tensors that can be laid, the header's offsets are the layout's: aligned, in order, without overlap, and the least that are so
+-- of tensors that can be laid, the header's offsets are the layout's: aligned, in order, without
+-- overlap, and the least that are so
 pub offsets-computed : (a : ℕ) (ts : List SheetTensor) {offsets : List ℕ} {laid : Laid} → layoutOf a (map pieceOf ts) ≡ laidOut offsets laid
     → map (λ (t : TensorContent). t .offset) (laidFrom a nothingLaid ts) ≡ offsets
 offsets-computed a ts e = offsets-from a nothingLaid 0 ts e
@@ -104,7 +105,8 @@ module _ (k : Dialect) (a : ℕ) (s out : List ℕ) {end start : ℕ} (wrote : W
   are : offsetsIn a s ≡ laid-out .offsets
   are = offsets-computed a (recordsIn (sheetOf s) .tensors) (laid-out .is)
 
-  -- they are a placement that keeps the rules: each is a multiple of the alignment, and none is before the end of the tensor before it
+  -- they are a placement that keeps the rules: each is a multiple of the alignment, and none is
+  -- before the end of the tensor before it
   pub offsets-placed : Arrangement a (piecesIn s) (offsetsIn a s)
   offsets-placed = subst (Arrangement a (piecesIn s)) (sym are) (offsets-arranged a (above-zero a (planned .aligned)) (piecesIn s) (laid-out .is))
 

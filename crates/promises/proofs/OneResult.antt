@@ -1,5 +1,7 @@
--- Contracts fix their results. Most are equations, `result ≡ definition`, and two results that equal one thing are equal. Where an answer is an enum whose
--- contract says `asX result ≡ definition`, `asX` tells any two answers apart, so that two results that it allows coincide. Assumes nothing.
+-- Contracts fix their results. Most are equations, `result ≡ definition`, and two results that
+-- equal one thing are equal. Where an answer is an enum whose contract says `asX result ≡
+-- definition`, `asX` tells any two answers apart, so that two results that it allows coincide.
+-- Assumes nothing.
 use Prim.Native.Nat.{ℕ}
 use mathlib.Core.Path.{_≡_, refl, sym, ap, _∙_}
 use mathlib.Core.List.{List}

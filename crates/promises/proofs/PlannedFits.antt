@@ -1,4 +1,5 @@
--- A header that was planned can be written: each number fits its field, and what a reader tests holds. Assumes nothing.
+-- A header that was planned can be written: each number fits its field, and what a reader tests
+-- holds. Assumes nothing.
 use Prim.Native.Nat.{ℕ, suc, _^_, _≤_, _<_, max}
 use mathlib.Core.Path.{_≡_, refl, ap, subst, _∙_}
 use mathlib.Core.Bool.{Bool, true, false}

@@ -1,4 +1,5 @@
--- What is read is told in full by what reads back: the size of a tensor is that of its shape and kind. Assumes nothing.
+-- What is read is told in full by what reads back: the size of a tensor is that of its shape and
+-- kind. Assumes nothing.
 use Prim.Native.Nat.{ℕ, _+_}
 use mathlib.Core.Path.{_≡_, refl}
 use mathlib.Core.List.{List, [], _∷_}

@@ -1,4 +1,5 @@
--- The answer of `read` to what was written, field by field: it is what reads back, with the counts. Assumes nothing.
+-- The answer of `read` to what was written, field by field: it is what reads back, with the counts.
+-- Assumes nothing.
 use Prim.Native.Nat.{ℕ, _^_, _<_}
 use mathlib.Core.Path.{_≡_, refl, sym, ap, _∙_}
 use mathlib.Core.List.{List, _++_, map}
@@ -50,7 +51,8 @@ told-head cap es ts s (accepted w o) e {t} {q} h =
     rw (head, at)
 told-head cap es ts s (refused n p) e h = let z : _≡_ {A = ℕ} 0 1 = cc in absurd (omega arith)
 
--- for any record sheet, version, byte order, alignment and output, where the header was written: its version and byte order, its counts, the alignment, its end and its start
+-- for any record sheet, version, byte order, alignment and output, where the header was written:
+-- its version and byte order, its counts, the alignment, its end and its start
 pub written-answer : (k : Dialect) (a : ℕ) (s out : List ℕ) → All Byte s → length out < 2 ^ 64 → {end start : ℕ} → Written end start ≡ answerFor k a s out
     → (cap : ℕ) (es ts : List (List ℕ)) → Enough a s es ts → (r : List ℕ)
     → seen (λ (w : FullHeader). w .head) (readerRun full cap es ts (outputFor k a s out ++ r)) ≡ accepted (record {

@@ -1,5 +1,6 @@
--- What the writer wrote reads back, and one sheet reads back the same from every version: a header that was planned can be written, so the laws of the
--- format's own bytes hold of it. Assumes nothing.
+-- What the writer wrote reads back, and one sheet reads back the same from every version: a header
+-- that was planned can be written, so the laws of the format's own bytes hold of it. Assumes
+-- nothing.
 use Prim.Native.Nat.{ℕ, _-_, _^_, _≤_, _<_}
 use mathlib.Core.Path.{_≡_, refl, sym, ap, subst, _∙_}
 use mathlib.Core.List.{List, _++_, append-assoc}
@@ -79,8 +80,8 @@ module _ (k : Dialect) (a : ℕ) (s out : List ℕ) (bytes : All Byte s) (small 
       let same : outputFor k a s out ++ r ≡ headerFor k a s ++ (gap ++ (drop (w .plan .start) out ++ r)) = ap (λ l. l ++ r) left ∙ rw (append-assoc, append-assoc) in
       subst (λ l. readIn cap es ts l ≡ accepted (summaryFor k a s end start) end) (sym same) (header-reads-back cap es ts rows (gap ++ (drop (w .plan .start) out ++ r)))
 
--- One sheet at one alignment, written twice, in two versions of one byte order: what is read of both is the same but for the version, the header's end and the
--- start of its data.
+-- One sheet at one alignment, written twice, in two versions of one byte order: what is read of
+-- both is the same but for the version, the header's end and the start of its data.
 pub versions-never-lie : (k k′ : Dialect) (a : ℕ) (s out out′ : List ℕ) → All Byte s → length out < 2 ^ 64 → length out′ < 2 ^ 64 → k .big ≡ k′ .big
     → {end start end′ start′ : ℕ} → Written end start ≡ answerFor k a s out → Written end′ start′ ≡ answerFor k′ a s out′
     → (cap : ℕ) (es ts : List (List ℕ)) → Enough a s es ts → (r r′ : List ℕ)

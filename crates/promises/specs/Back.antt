@@ -1,4 +1,5 @@
--- What the promises over the writer and the reader speak of: what the writer leaves, what the reader tells of bytes, and what it is to tell of those.
+-- What the promises over the writer and the reader speak of: what the writer leaves, what the
+-- reader tells of bytes, and what it is to tell of those.
 use Prim.Native.Nat.{ℕ, _≤_}
 use mathlib.Core.List.{List, map}
 use lib.ListN.{length}
@@ -27,7 +28,8 @@ outputFor k a s out = leftBy (planFor k a (length out) s) (headerFor k a s) out
 abbrev pub readIn : ℕ → List (List ℕ) → List (List ℕ) → List ℕ → Answer Summary
 readIn cap es ts bytes = seen (summaryIn bytes) (readerRun full cap es ts bytes)
 
--- all that the header holds: the sheet's entries, with the alignment's own where that is added, and its tensors at their offsets
+-- all that the header holds: the sheet's entries, with the alignment's own where that is added, and
+-- its tensors at their offsets
 abbrev pub contentsFor : ℕ → List ℕ → Contents
 contentsFor a s = headerContents a (recordsIn (sheetOf s))
 
@@ -35,6 +37,7 @@ contentsFor a s = headerContents a (recordsIn (sheetOf s))
 abbrev pub piecesIn : List ℕ → List Piece
 piecesIn s = map pieceOf (recordsIn (sheetOf s) .tensors)
 
+-- the offsets that its tensors have in the header
 abbrev pub offsetsIn : ℕ → List ℕ → List ℕ
 offsetsIn a s = map (λ (t : TensorContent). t .offset) (contentsFor a s .tensors)
 
@@ -47,7 +50,8 @@ pub record Enough (a : ℕ) (s : List ℕ) (es ts : List (List ℕ)) : Type 0 wh
   pub entries : length (contentsFor a s .entries) ≤ length es
   pub tensors : length (contentsFor a s .tensors) ≤ length ts
 
--- an answer but for what a version decides: the version itself, where the header ends, and where its data starts
+-- an answer but for what a version decides: the version itself, where the header ends, and where
+-- its data starts
 abbrev pub versionless : Answer Summary → Answer Summary
 versionless (accepted t q) = accepted (record { dialect = record { version = 0; big = t .dialect .big }; sheet = t .sheet; alignment = t .alignment; end = 0; start = 0 }) 0
 versionless (refused n p) = refused n p

@@ -6,7 +6,8 @@ use mathlib.Core.List.{List, [], _∷_}
 use Rattle.ranges.specs.Ranges.{checkFrom}
 use Rattle.ranges.specs.declared.RangeCheck.the-variants.{Inside, Refused}
 
--- the rows of tensor a (kind 0, length 5: 20 bytes at 0) and of tensor b (kind 1, length 3: 6 bytes at 32)
+-- the rows of tensor a (kind 0, length 5: 20 bytes at 0) and of tensor b (kind 1, length 3: 6 bytes
+-- at 32)
 abbrev rowsOfAB : List (List ℕ)
 rowsOfAB = (32 ∷ 1 ∷ 0 ∷ 1 ∷ 5 ∷ 1 ∷ 1 ∷ 1 ∷ 0 ∷ 20 ∷ []) ∷ (65 ∷ 1 ∷ 1 ∷ 1 ∷ 3 ∷ 1 ∷ 1 ∷ 1 ∷ 32 ∷ 6 ∷ []) ∷ []
 
@@ -39,7 +40,8 @@ rowsOfTU = (32 ∷ 1 ∷ 0 ∷ 1 ∷ 4611686018427387903 ∷ 1 ∷ 1 ∷ 1 ∷ 0
 wrapping-size : checkFrom 96 134 0 rowsOfTU ≡ Refused 20 0
 wrapping-size = refl
 
--- fault_alignment_of_2_64_less_8, whose data starts there: in 64 bits a would end at 12, and b at 30
+-- fault_alignment_of_2_64_less_8, whose data starts there: in 64 bits a would end at 12, and b at
+-- 30
 wrapping-start : checkFrom 18446744073709551608 134 0 rowsOfAB ≡ Refused 20 0
 wrapping-start = refl
 

@@ -1,4 +1,5 @@
--- What the answer means: every row ends inside the file, or the number is that of the first that does not. Assumes nothing.
+-- What the answer means: every row ends inside the file, or the number is that of the first that
+-- does not. Assumes nothing.
 use Prim.Native.Nat.{ℕ, zero, suc, _+_, _≤_, _<_}
 use mathlib.Core.Path.{_≡_, refl, ap, _∙_}
 use mathlib.Core.Bool.{Bool, true, false}

@@ -7,13 +7,15 @@ ghost use Prim.Native.Nat.{_+_};
 ghost use lib.Dec.{leb};
 ghost use Rattle.ranges.specs.Ranges.{checkFrom};
 
-// Every tensor ends inside the file, or the refusal, 20, with the number of the first that does not.
+// Every tensor ends inside the file, or the refusal, 20, with the number of the first that does
+// not.
 pub enum RangeCheck {
     Inside,
     Refused { why: u64, tensor: usize },
 }
 
-// Whether data at an offset from start, of so many bytes, ends inside a file. Only differences are made, which cannot wrap.
+// Whether data at an offset from start, of so many bytes, ends inside a file. Only differences are
+// made, which cannot wrap.
 fn ends_inside(start: u64, offset: u64, size: u64, file: u64) -> bool
     ensures { λ r. ⌜ r ≡ leb (start + offset + size) file ⌝ }
 {
@@ -27,7 +29,8 @@ fn ends_inside(start: u64, offset: u64, size: u64, file: u64) -> bool
     size <= area - offset
 }
 
-// Whether the data of every tensor row ends inside a file of so many bytes, whose data starts at start. The rows may be anyone's.
+// Whether the data of every tensor row ends inside a file of so many bytes, whose data starts at
+// start. The rows may be anyone's.
 pub fn check_ranges(rows: &[TensorRow], start: u64, file: u64) -> RangeCheck
     ensures { λ r. ⌜ r ≡ checkFrom start file 0 (now (rows .entry)) ⌝ }
 {

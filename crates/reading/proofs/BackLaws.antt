@@ -1,4 +1,5 @@
--- The laws of reading back: one for each constructor of a program, one for a number, and one for a list. Assumes nothing.
+-- The laws of reading back: one for each constructor of a program, and one for a list. Assumes
+-- nothing.
 use Prim.Native.Nat.{ℕ, _+_, _*_, _≤_}
 use mathlib.Core.Path.{_≡_, refl, sym, ap, subst, _∙_, fun-ext}
 use mathlib.Core.List.{List, [], _∷_, _++_, map, append-nil}

@@ -1,4 +1,5 @@
--- What a reader with ceilings answers, from the marks and the answer of the whole format's reader. Assumes nothing.
+-- What a reader with ceilings answers, from the marks and the answer of the whole format's reader.
+-- Assumes nothing.
 use Prim.Native.Nat.{ℕ, zero, suc, _+_}
 use mathlib.Core.Path.{_≡_, refl, sym, ap, _∙_, fun-ext}
 use mathlib.Core.List.{List, [], _∷_, _++_}
@@ -32,7 +33,8 @@ abbrev pub after : {A : Type 0} → Answer A → (A → ℕ → List Mark) → L
 after (accepted a p) f = f a p
 after (refused n p) f = []
 
--- with the ceilings l a reader refuses at the first mark above them, if there is one, and else answers what the whole format's does
+-- with the ceilings l a reader refuses at the first mark above them, if there is one, and else
+-- answers what the whole format's does
 pub ceilings : {A : Type 0} (l : Limits) (m : Reading A) (s : List ℕ) (at : ℕ) → run (under l m) s at ≡ orTooNew l (marks m s at) (run m s at)
 unfolding run under marks
 ceilings l (done a) s at = refl

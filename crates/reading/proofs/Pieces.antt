@@ -1,4 +1,5 @@
--- A program whose bytes come in pieces: the pieces give what the whole gives, and no more is kept than is looked at. Assumes nothing.
+-- A program whose bytes come in pieces: the pieces give what the whole gives, and no more is kept
+-- than is looked at. Assumes nothing.
 use Prim.Native.Nat.{ℕ, zero, suc, _+_, _-_, _≤_, _<_}
 use mathlib.Core.Path.{_≡_, refl, sym, ap, _∙_}
 use mathlib.Core.List.{List, [], _∷_, _++_, append-assoc, append-nil}

@@ -1,4 +1,5 @@
--- A turn of a repetition, whatever is read, whatever goes through it, and whatever a row is. Assumes nothing.
+-- A turn of a repetition, whatever is read, whatever goes through it, and whatever a row is.
+-- Assumes nothing.
 use Prim.Native.Nat.{ℕ, zero, suc, _+_, _-_, _≤_, _<_}
 use mathlib.Core.Path.{_≡_, refl, sym, ap, _∙_}
 use mathlib.Core.List.{List, [], _∷_, _++_, map, append-assoc}

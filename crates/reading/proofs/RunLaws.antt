@@ -1,4 +1,5 @@
--- The laws of `run`, proved once for every program: one program after another, bytes that follow, and how far a program reads. Assumes nothing.
+-- The laws of `run`, proved once for every program: one program after another, bytes that follow,
+-- and how far a program reads. Assumes nothing.
 use Prim.Native.Nat.{ℕ, _+_, _≤_, max}
 use mathlib.Core.Path.{_≡_, refl, sym, ap, _∙_}
 use mathlib.Core.List.{List, _++_}

@@ -1,4 +1,5 @@
--- What is sure of whatever a program accepts: one law for each constructor of a program, one for a number, and one for a repetition. Assumes nothing.
+-- What is sure of whatever a program accepts: one law for each constructor of a program, and one
+-- for a repetition. Assumes nothing.
 use Prim.Native.Nat.{ℕ, zero, suc, _+_, _≤_}
 use mathlib.Core.Path.{_≡_, refl, sym, ap, subst, _∙_}
 use mathlib.Core.List.{List, [], _∷_, map}
@@ -62,7 +63,8 @@ module _ {s : List ℕ} where
   sure-if true m n h g = h refl
   sure-if false m n h g = g refl
 
-  -- a repetition: as many as were asked for, each as P says of it and of the state that it was given
+  -- a repetition: as many as were asked for, each as P says of it and of the state that it was
+  -- given
   pub sure-each : {S A : Type 0} {P : S → A → Type 0} (m : S → Reading A) (f : S → A → S) → ((z : S) (p : ℕ) → Sure s (m z) p (λ a q. P z a))
       → (n : ℕ) (z : S) (p : ℕ) → Sure s (each m f n z) p (λ l q. (length l ≡ n) × Along P f z l)
   unfolding each

@@ -1,11 +1,9 @@
--- What it is to read back: bytes that stand at a place, and a program that reads there what they say.
--- A number as bytes, at every width and in both orders; and what a writer leaves of its output.
+-- What it is to read back: bytes that stand at a place, and a program that reads there what they
+-- say.
 use Prim.Native.Nat.{ℕ, _+_, _≤_}
 use mathlib.Core.Path.{_≡_}
 use mathlib.Core.List.{List, [], _∷_, map, _++_}
-use mathlib.Core.Bool.{Bool}
 use lib.ListN.{length, take, drop}
-use Rattle.reading.specs.Choice.{if_then_else_}
 use Rattle.reading.specs.Reading.{Reading, Answer, accepted, refused, run, seen}
 use Rattle.reading.specs.Each.{times}
 

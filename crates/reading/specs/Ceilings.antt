@@ -1,5 +1,4 @@
 -- A reader of a format that takes only versions and kinds up to its ceilings.
--- What the code's answers say, and the run that an answer and both tables come from.
 use Prim.Native.Nat.{ℕ, _+_}
 use mathlib.Core.List.{List, [], _∷_, _++_}
 use mathlib.Core.Bool.{Bool, true, false}

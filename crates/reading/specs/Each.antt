@@ -1,10 +1,12 @@
--- Repetition: so many times a program, with or without a state that goes through it; and the table that its rows fill.
+-- Repetition: so many times a program, with or without a state that goes through it; and the table
+-- that its rows fill.
 use Prim.Native.Nat.{ℕ, zero, suc}
 use mathlib.Core.List.{List, [], _∷_, _++_, map}
 use lib.ListN.{length, drop}
 use Rattle.reading.specs.Reading.{Reading, done, Answer, accepted, refused, _>>=_}
 
--- n times a program that is given the state so far, which what it read then changes; and what each time read
+-- n times a program that is given the state so far, which what it read then changes; and what each
+-- time read
 unfoldable pub each : {S A : Type 0} → (S → Reading A) → (S → A → S) → ℕ → S → Reading (List A)
 each m f zero z = done []
 each m f (suc n) z = do

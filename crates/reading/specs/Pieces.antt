@@ -6,8 +6,8 @@ use lib.Dec.{leb}
 use Rattle.reading.specs.Choice.{if_then_else_}
 use Rattle.reading.specs.Reading.{Reading, done, refuse, place, field, known, Answer, accepted, refused}
 
--- The state between two pieces: an answer; or, in a field, what follows it, its place, how many of its bytes are looked at, its width, those
--- looked at that came, and how many came
+-- The state between two pieces: an answer; or, in a field, what follows it, its place, how many of
+-- its bytes are looked at, its width, those looked at that came, and how many came
 pub data Stage (A : Type 0) : Type 0 where
   over : Answer A → Stage A
   wants : (List ℕ → Reading A) → (at looked width : ℕ) → (kept : List ℕ) → (came : ℕ) → Stage A

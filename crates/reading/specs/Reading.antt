@@ -11,10 +11,10 @@ pub data Which : Type 0 where
   aVersion : Which
   aKind : Which
 
--- A program that reads an A.
--- `done a`: nothing more is read, and a is what was read. `refuse n p`: refusal n, at the place p. `place k`: k of the place that is reached.
--- `field l w k`: a field of w bytes, and then k of its first l; nothing looks at the rest.
--- `known x v p m`: a version or a kind v, found known at the place p, and then m
+-- A program that reads an A. `done a`: nothing more is read, and a is what was read. `refuse n p`:
+-- refusal n, at the place p. `place k`: k of the place that is reached. `field l w k`: a field of w
+-- bytes, and then k of its first l; nothing looks at the rest. `known x v p m`: a version or a kind
+-- v, found known at the place p, and then m
 pub data Reading (A : Type 0) : Type 0 where
   done : A → Reading A
   refuse : ℕ → ℕ → Reading A
@@ -27,7 +27,8 @@ pub data Answer (A : Type 0) : Type 0 where
   accepted : A → ℕ → Answer A
   refused : ℕ → ℕ → Answer A
 
--- the program over the bytes s, from the place at. A field that is not wholly there is refusal 1, at the field's place
+-- the program over the bytes s, from the place at. A field that is not wholly there is refusal 1,
+-- at the field's place
 unfoldable pub run : {A : Type 0} → Reading A → List ℕ → ℕ → Answer A
 run (done a) s at = accepted a at
 run (refuse n p) s at = refused n p

@@ -1,5 +1,5 @@
--- A local array, as what is lent as a slice, and back: an array that was written whole is its elements side by side, and elements side by side are an array.
--- Assumes `Given`.
+-- A local array, as what is lent as a slice, and back: an array that was written whole is its
+-- elements side by side, and elements side by side are an array. Assumes `Given`.
 use mathlib.Core.Path.{refl}
 use Prim.Native.Nat.{ℕ}
 use mathlib.Core.List.{List, [], _∷_}

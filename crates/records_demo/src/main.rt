@@ -1,7 +1,8 @@
-// Reads the header of two tensors, a and b, into records, and prints the fields of each: the name's place and length, kind, dimension count, four lengths, offset
-// and size; beyond the last there is none. Then the same header without its last byte, which is refused and leaves the records blank.
-use reading::Limits;
+// Reads the header of two tensors, a and b, into records, and prints the fields of each: the name's
+// place and length, kind, dimension count, four lengths, offset and size; beyond the last there is
+// none. Then the same header without its last byte, which is refused and leaves the records blank.
 use header::HeaderRead;
+use reading::Limits;
 use rows::ENTRY_WORDS;
 use rows::EntryRow;
 use rows::TENSOR_WORDS;
@@ -111,7 +112,8 @@ fn show(s: &[u8]) {
     print_listing(list(s, &mut entries, &mut rows, blank));
 }
 
-// The header: its start, tensor a of kind 0 and length 5 at 0, tensor b of kind 1 and length 3 at 32.
+// The header: its start, tensor a of kind 0 and length 5 at 0, tensor b of kind 1 and length 3 at
+// 32.
 fn main() {
     let header = *b"GGUF\x03\0\0\0\x02\0\0\0\0\0\0\0\0\0\0\0\0\0\0\0\
                    \x01\0\0\0\0\0\0\0a\x01\0\0\0\x05\0\0\0\0\0\0\0\0\0\0\0\0\0\0\0\0\0\0\0\

@@ -1,14 +1,16 @@
-// Reads each header of a stored sample and compares what the reader says with what the original said of the same bytes. Prints how many answers there were, how
-// many differ, and the numbers of the first that do.
+// Reads each header of a stored sample and compares what the reader says with what the original
+// said of the same bytes. Prints how many answers there were, how many differ, and the numbers of
+// the first that do.
 //
-// data/README.md says what the file of answers holds and how it is made. A function that compares takes the place that it has reached in a stored answer,
-// and answers the place after what agreed, or LOST, where nothing stands: so what comes after a difference differs too.
-use reading::Limits;
+// data/README.md says what the file of answers holds and how it is made. A function that compares
+// takes the place that it has reached in a stored answer, and answers the place after what agreed,
+// or LOST, where nothing stands: so what comes after a difference differs too.
 use fields::Number;
 use fields::Width;
 use header::Header;
 use header::HeaderRead;
 use libc::STDOUT_FILENO;
+use reading::Limits;
 use rows::ENTRY_WORDS;
 use rows::EntryRow;
 use rows::FIRST_ITEM;
@@ -24,9 +26,9 @@ use rows::STRING_PLACE;
 use rows::TENSOR_WORDS;
 use rows::TensorRow;
 use rows::VALUE_TYPE;
+use scalars::ScalarWidth;
 use values::Dialect;
 use values::Entry;
-use scalars::ScalarWidth;
 use values::Span;
 use values::TextRead;
 use values::Value;
@@ -246,12 +248,24 @@ fn same_value(answer: &[u8], at: usize, input: &[u8], row: EntryRow, dialect: Di
     match row[VALUE_TYPE] {
         8 => {
             let p = same_word(answer, at, TEXT);
-            same_text(answer, p, text_in(input, row[STRING_PLACE], row[STRING_LENGTH]))
+            same_text(
+                answer,
+                p,
+                text_in(input, row[STRING_PLACE], row[STRING_LENGTH]),
+            )
         }
         9 => {
             let p = same_word(answer, at, LIST);
             let q = same_word(answer, p, row[KEPT]);
-            same_items(answer, q, input, row[FIRST_ITEM] as usize, row[KEPT], row[ITEM_TYPE], dialect)
+            same_items(
+                answer,
+                q,
+                input,
+                row[FIRST_ITEM] as usize,
+                row[KEPT],
+                row[ITEM_TYPE],
+                dialect,
+            )
         }
         t => same_scalar(answer, at, t, row[SCALAR]),
     }
@@ -437,14 +451,16 @@ fn text_at(sample: &[u8], at: usize) -> &[u8] {
     }
 }
 
-// Prints the number of an answer that differs. What stands after the last answer counts as one more.
+// Prints the number of an answer that differs. What stands after the last answer counts as one
+// more.
 fn print_number(i: u64) {
     io::write_all(STDOUT_FILENO, b"answer ");
     io::print_decimal(STDOUT_FILENO, i);
     io::write_all(STDOUT_FILENO, b" differs\n");
 }
 
-// 1 where the answer i differs, and 0 where it agrees. The numbers of the first five that differ are printed.
+// 1 where the answer i differs, and 0 where it agrees. The numbers of the first five that differ
+// are printed.
 fn counted(is_same: bool, i: u64, differ: u64) -> u64
     ensures { λ r. ⌜ r ≤ 1 ⌝ }
 {

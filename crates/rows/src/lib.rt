@@ -1,8 +1,8 @@
 // The rows of the two lent tables: how many words a row has, and what stands in which.
 //
-// An entry's value takes the last four words of its row: a scalar and three zeros; a string's place,
-// its length and two zeros; or an array's item type, count, kept count and the place of its first item.
-// specs/Columns.antt has the same names for definitions.
+// An entry's value takes the last four words of its row: a scalar and three zeros; a string's
+// place, its length and two zeros; or an array's item type, count, kept count and the place of its
+// first item. specs/Columns.antt has the same names for definitions.
 
 // An entry's row.
 pub type EntryRow = [u64; ENTRY_WORDS];

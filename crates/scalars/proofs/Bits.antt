@@ -1,5 +1,4 @@
--- The alignment that contents say is the one that a reader finds. Assumes nothing.
--- A scalar's width and bits by its type.
+-- A scalar's bits: those of its own width say it again, and so does what a reader kept of them.
 -- Assumes nothing.
 use Prim.Native.Nat.{ℕ, suc, _%_, _^_, _≤_, _<_, zero}
 use mathlib.Core.Path.{_≡_, refl, sym, ap, _∙_, subst}

@@ -64,7 +64,8 @@ signed-is w n = by (ltb n (2 ^ hbits w))
 pub signed-bits : (w : Width) (n : ℕ) → ofZ w (signedOf (2 ^ hbits w) (n % 2 ^ bits w)) ≡ n % 2 ^ bits w
 signed-bits w n = ap (ofZ w) (signed-is w (n % 2 ^ bits w)) ∙ ofZ-toZ w (n % 2 ^ bits w) (fits-wrap w n)
 
--- z is a number of 64 bits that the low bits of n stand for at a narrow width: narrowed to that width, it is the same
+-- z is a number of 64 bits that the low bits of n stand for at a narrow width: narrowed to that
+-- width, it is the same
 module _ (w : Width) (small : 2 ^ hbits w ≤ 2 ^ 63) (n : ℕ) {z : ℤ} (e : z ≡ signedOf (2 ^ hbits w) (n % 2 ^ bits w)) where
   fits : SFits w z
   fits = rw (e, signed-is w (n % 2 ^ bits w)) (toZ-fits w (n % 2 ^ bits w) (fits-wrap w n))

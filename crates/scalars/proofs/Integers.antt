@@ -1,5 +1,6 @@
--- An integer scalar's number fits 64 bits: it is at most the bits that it was made of. Assumes nothing.
-use Prim.Native.Nat.{ℕ, suc, _+_, _-_, _%_, _^_, _≤_, _<_}
+-- An integer scalar's number fits 64 bits: it is at most the bits that it was made of. Assumes
+-- nothing.
+use Prim.Native.Nat.{ℕ, suc, _+_, _-_, _%_, _^_, _≤_}
 use mathlib.Core.Bool.{Bool, true, false, not}
 use native.Mathlib.Omega.{arith}
 use lib.Dec.{eqb, ltb}

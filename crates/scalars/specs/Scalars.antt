@@ -1,4 +1,5 @@
--- Scalars: single values of eleven types. What bits stand for, which bits stand for a scalar, and its word in a row.
+-- Scalars: single values of eleven types. What bits stand for, which bits stand for a scalar, and
+-- its word in a row.
 use Prim.Native.Nat.{ℕ, suc, _%_, _+_, _^_, _≤_, _<_, _-_}
 use mathlib.Core.Path.{_≡_}
 use mathlib.Core.Bool.{not}
@@ -18,7 +19,8 @@ use Rattle.scalars.specs.declared.ScalarWidth.the-variants.{Of, None}
 use Rattle.scalars.specs.declared.Natural.{Natural}
 use Rattle.scalars.specs.declared.Natural.the-variants.{Number, None as NoNumber}
 
--- the bytes of a scalar of each of the thirteen value types, and 0 of a string and an array, which are none
+-- the bytes of a scalar of each of the thirteen value types, and 0 of a string and an array, which
+-- are none
 abbrev pub scalarWidths : List ℕ
 scalarWidths = 1 ∷ 1 ∷ 2 ∷ 2 ∷ 4 ∷ 4 ∷ 4 ∷ 1 ∷ 0 ∷ 0 ∷ 8 ∷ 8 ∷ 8 ∷ []
 
@@ -26,12 +28,13 @@ scalarWidths = 1 ∷ 1 ∷ 2 ∷ 2 ∷ 4 ∷ 4 ∷ 4 ∷ 1 ∷ 0 ∷ 0 ∷ 8 ∷
 unfoldable pub scalarWidth : ℕ → ℕ
 scalarWidth t = getD scalarWidths t 0
 
--- the number that n stands for in two's complement, where half is the least n that stands for one below 0
+-- the number that n stands for in two's complement, where half is the least n that stands for one
+-- below 0
 abbrev pub signedOf : ℕ → ℕ → ℤ
 signedOf half n = if ltb n half then pos n else negsuc (half + half - suc n)
 
--- the scalar of a type that a number stands for by the low bits of its width: a signed one in two's complement, a
--- float as its bits, a bool true unless it is 0
+-- the scalar of a type that a number stands for by the low bits of its width: a signed one in two's
+-- complement, a float as its bits, a bool true unless it is 0
 abbrev pub scalarOf : ℕ → ℕ → Scalar
 scalarOf t n =
     if eqb t 0 then U8 (n % 2 ^ 8)
@@ -82,7 +85,8 @@ pub record FitsScalar (t v : ℕ) : Type 0 where
   pub typed : scalarType (scalarOf t v) ≡ t
   pub normal : scalarBits (scalarOf t v) ≡ v
 
--- a scalar in 64 bits: a signed one in two's complement, so that the word as a signed number is the scalar
+-- a scalar in 64 bits: a signed one in two's complement, so that the word as a signed number is the
+-- scalar
 abbrev pub scalarWord : Scalar → ℕ
 scalarWord (U8 x) = x
 scalarWord (I8 x) = ofZ w64 x

@@ -67,7 +67,8 @@ fn signed32(bits: u64) -> i32
     signed(bits % 4294967296, 2147483648) as i32
 }
 
-// The scalar of a type that bits stand for. Every type that is no other scalar's is read as the last one's.
+// The scalar of a type that bits stand for. Every type that is no other scalar's is read as the
+// last one's.
 pub fn scalar_of(t: u64, bits: u64) -> Scalar
     ensures { λ r. ⌜ r ≡ scalar.scalarOf t bits ⌝ }
 {

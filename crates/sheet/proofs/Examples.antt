@@ -1,4 +1,5 @@
--- Worked sheets, computed by the checker: what each says, or where its first bad entry begins. Assumes nothing.
+-- Worked sheets, computed by the checker: what each says, or where its first bad entry begins.
+-- Assumes nothing.
 use Prim.Native.Nat.{ℕ, suc, _+_}
 use mathlib.Core.Path.{_≡_, refl}
 use mathlib.Core.List.{List, [], _∷_, _++_}
@@ -16,7 +17,8 @@ use Rattle.sheet.specs.Sheet.{asMany, next, entriesFrom, tensorsFrom, sh
 abbrev flat : ℕ → ℕ → ℕ → List ℕ
 flat name k n = 0 ∷ 0 ∷ 0 ∷ 19 ∷ 2 ∷ 0 ∷ 0 ∷ 0 ∷ 1 ∷ name ∷ 0 ∷ 0 ∷ 0 ∷ k ∷ 1 ∷ 0 ∷ 0 ∷ 0 ∷ 0 ∷ 0 ∷ 0 ∷ 0 ∷ n ∷ []
 
--- 10 bytes and l: a metadata entry of n bytes, with a key of one byte, and with the type and the value l
+-- 10 bytes and l: a metadata entry of n bytes, with a key of one byte, and with the type and the
+-- value l
 abbrev meta : ℕ → ℕ → List ℕ → List ℕ
 meta key n l = 0 ∷ 0 ∷ 0 ∷ n ∷ 1 ∷ 0 ∷ 0 ∷ 0 ∷ 1 ∷ key ∷ l
 

@@ -1,4 +1,5 @@
--- An entry in its frame: where its opening is bad, or its end is past the sheet, it is refused, whatever is inside. Assumes nothing.
+-- An entry in its frame: where its opening is bad, or its end is past the sheet, it is refused,
+-- whatever is inside. Assumes nothing.
 use Prim.Native.Nat.{ℕ, _≤_, _<_, max}
 use mathlib.Core.Path.{_≡_, refl, sym, _∙_}
 use mathlib.Core.List.{List}

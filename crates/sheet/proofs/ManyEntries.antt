@@ -1,4 +1,5 @@
--- A turn of the entries of a sheet, and how many there are: those that are left, with those before them, are all. Assumes nothing.
+-- A turn of the entries of a sheet, and how many there are: those that are left, with those before
+-- them, are all. Assumes nothing.
 use Prim.Native.Nat.{ℕ, zero, suc, _+_, _-_, _≤_, _<_}
 use mathlib.Core.Path.{_≡_, refl, ap, _∙_}
 use mathlib.Core.List.{List, [], _∷_}

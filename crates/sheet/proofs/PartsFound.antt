@@ -1,4 +1,5 @@
--- Where the parts of an accepted entry stand, and what is read there: its key or name is inside the sheet, and its value can be read again. Assumes nothing.
+-- Where the parts of an accepted entry stand, and what is read there: its key or name is inside the
+-- sheet, and its value can be read again. Assumes nothing.
 use Prim.Native.Nat.{ℕ, zero, suc, _+_, _*_, _^_, _≤_, _<_}
 use mathlib.Core.Path.{_≡_, refl, sym, ap, subst, _∙_}
 use mathlib.Core.List.{List}
@@ -52,7 +53,8 @@ pub record TextTold (s : List ℕ) (p : ℕ) (a : Text) (q : ℕ) : Type 0 where
   pub bytes : bytesAt s (a .span) ≡ a .bytes
   pub short : a .span .len ≤ 2 ^ 30
 
--- a metadata entry that begins at p and ends at q: its key stands behind its length, its tag and the key's length, and its value behind its type
+-- a metadata entry that begins at p and ends at q: its key stands behind its length, its tag and
+-- the key's length, and its value behind its type
 pub record EntryTold (s : List ℕ) (p : ℕ) (e : SheetEntry) (q : ℕ) : Type 0 where
   pub starts : e .parts .key .place ≡ p + 9
   pub there : e .parts .key .place + e .parts .key .len ≤ length s

@@ -1,4 +1,5 @@
--- What a sheet says can be written in every dialect: each number fits its field, and texts are not too long. Assumes nothing.
+-- What a sheet says can be written in every dialect: each number fits its field, and texts are not
+-- too long. Assumes nothing.
 use Prim.Native.Nat.{ℕ, zero, suc, _+_, _-_, _^_, _≤_, _<_}
 use mathlib.Core.Path.{_≡_, refl, sym, subst, _∙_}
 use mathlib.Core.List.{List}

@@ -1,4 +1,5 @@
--- An item or a value of a type is what its form reads: a scalar, a text, an array, or nothing. Assumes nothing.
+-- An item or a value of a type is what its form reads: a scalar, a text, an array, or nothing.
+-- Assumes nothing.
 use Prim.Native.Nat.{ℕ, _-_, _<_}
 use mathlib.Core.Path.{_≡_, refl}
 use mathlib.Core.List.{List}

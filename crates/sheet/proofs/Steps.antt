@@ -1,4 +1,5 @@
--- Back from what is told of an answer: a bad one is a refusal, with some number and some place, and any other is accepted. Assumes nothing.
+-- Back from what is told of an answer: a bad one is a refusal, with some number and some place, and
+-- any other is accepted. Assumes nothing.
 use Prim.Native.Nat.{ℕ, _+_, _-_, _<_}
 use mathlib.Core.Path.{_≡_, refl, sym, ap, _∙_}
 use mathlib.Core.List.{List}

@@ -1,5 +1,6 @@
--- What an accepted sheet is: entries and tensors, each list as a repetition reads it, up to the sheet's end, with ascending keys. As many turns as there are
--- bytes are enough, since every entry takes some. Assumes nothing.
+-- What an accepted sheet is: entries and tensors, each list as a repetition reads it, up to the
+-- sheet's end, with ascending keys. As many turns as there are bytes are enough, since every entry
+-- takes some. Assumes nothing.
 use Prim.Native.Nat.{ℕ, zero, suc, _+_, _≤_, _<_}
 use mathlib.Core.Path.{_≡_, refl, sym, ap, subst, _∙_}
 use mathlib.Core.List.{List, [], _∷_, map}
@@ -70,7 +71,8 @@ module _ {S A : Type 0} (more : List ℕ → ℕ → Bool) (m : S → Reading A)
           let j : e ≡ p = cc in
           rw (i, j)
 
-  -- where each goes on, and nothing more follows past the end, as many turns as bytes are left end only where nothing more follows
+  -- where each goes on, and nothing more follows past the end, as many turns as bytes are left end
+  -- only where nothing more follows
   pub many-all : ((p : ℕ) → length s ≤ p → more s p ≡ false) → ((z : S) (p : ℕ) → Sure s (m z) p (λ a q. p < q))
       → (turns : ℕ) (z : S) (p : ℕ) → length s ≤ p + turns → (l : List A) (e : ℕ) → accepted l e ≡ asMany more m f turns z s p → more s e ≡ false
   unfolding asMany
@@ -89,7 +91,8 @@ module _ {S A : Type 0} (more : List ℕ → ℕ → Bool) (m : S → Reading A)
           let j : e ≡ p = cc in
           rw j t
 
-  -- so it is no matter how many turns there are, as long as they are enough: accepted or refused, the answer is the same
+  -- so it is no matter how many turns there are, as long as they are enough: accepted or refused,
+  -- the answer is the same
   pub many-enough : ((p : ℕ) → length s ≤ p → more s p ≡ false) → ((z : S) (p : ℕ) → Sure s (m z) p (λ a q. p < q))
       → (t u : ℕ) (z : S) (p : ℕ) → length s ≤ p + t → length s ≤ p + u → asMany more m f t z s p ≡ asMany more m f u z s p
   unfolding asMany

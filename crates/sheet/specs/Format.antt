@@ -1,7 +1,9 @@
--- The record sheet's entries, as programs of fields. Every number has its big end first, and lengths come before what they measure.
+-- The record sheet's entries, as programs of fields. Every number has its big end first, and
+-- lengths come before what they measure.
 --
--- A program here reads what an entry says, as contents, and where its parts are. Whatever is not well formed is refused; the sheet tells it as
--- refusal 31 at the start of the entry, so that no number or place of a refusal inside an entry matters.
+-- A program here reads what an entry says, as contents, and where its parts are. Whatever is not
+-- well formed is refused; the sheet tells it as refusal 31 at the start of the entry, so that no
+-- number or place of a refusal inside an entry matters.
 use Prim.Native.Nat.{ℕ, zero, suc, _+_, _-_, _^_}
 use mathlib.Core.Bool.{Bool, true}
 use mathlib.Core.List.{List}
@@ -62,7 +64,8 @@ scalar t = do
 abbrev pub itemType : ℕ → ℕ → Bool
 itemType d t = if eqb t 9 then ltb 0 d else leb t 12
 
--- an array: its item type, its count and its items, in which fewer than d arrays may stand in one another
+-- an array: its item type, its count and its items, in which fewer than d arrays may stand in one
+-- another
 unfoldable pub array : (d : ℕ) → (ℕ → Reading (Content d)) → Reading (ValueContent (Content d))
 array zero item = bad
 array (suc d) item = do
@@ -84,7 +87,8 @@ item (suc d) t =
       done (aText (a .bytes)))
     else array d (item d)
 
--- the value of the type t of an entry that ends at e: a scalar, a string, which is all that is left, or an array
+-- the value of the type t of an entry that ends at e: a scalar, a string, which is all that is
+-- left, or an array
 unfoldable pub value : ℕ → ℕ → Reading (Content (suc depth))
 value e t =
     if ltb 0 (scalarWidth t) then (do
@@ -129,6 +133,7 @@ entryBody e = do
   c ← value e t
   done (record { content = record { key = a .bytes; value = c }; parts = record { key = a .span; form = t; value = p } })
 
+-- a metadata entry: tag 1, and a key, a type and a value
 unfoldable pub metadata : Reading SheetEntry
 metadata = framed 1 entryBody
 
@@ -156,5 +161,6 @@ tensorBody = do
   x ← shape
   done (record { name = a .bytes; parts = record { name = a .span; kind = k; shape = x } })
 
+-- a tensor entry: tag 2, and a name, a kind and a shape
 unfoldable pub tensor : Reading SheetTensor
 tensor = framed 2 (λ e. tensorBody)

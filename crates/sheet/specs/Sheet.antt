@@ -1,6 +1,7 @@
--- A record sheet: the version byte 1, the metadata entries with their keys in order, and the tensors, used up exactly.
+-- A record sheet: the version byte 1, the metadata entries with their keys in order, and the
+-- tensors, used up exactly.
 use Prim.Native.Nat.{ℕ, zero, suc, _+_}
-use mathlib.Core.Bool.{Bool, true, false}
+use mathlib.Core.Bool.{Bool, true}
 use mathlib.Core.List.{List, [], _∷_}
 use lib.Dec.{leb, ltb, eqb}
 use lib.ListN.{length, getD}
@@ -8,7 +9,6 @@ use Rattle.reading.specs.Choice.{if_then_else_}
 use Rattle.fields.specs.Order.{before}
 use Rattle.reading.specs.Reading.{Reading, done, Answer, accepted, refused, run, _>>=_, _>>_, andThen}
 use Rattle.tensors.specs.declared.Shape.{Shape}
-use Rattle.values.specs.declared.Span.{Span}
 use Rattle.values.specs.Contents.{insideOf}
 use Rattle.sheet.specs.Format.{must, Text, SheetEntry, metadata, SheetTensor, tensor}
 use Rattle.sheet.specs.declared.Stepped.{Stepped}
@@ -30,13 +30,15 @@ use Rattle.sheet.specs.declared.Counted.the-variants.{Counts, Bad as Bad
 use Rattle.sheet.specs.declared.Checked.{Checked}
 use Rattle.sheet.specs.declared.Checked.the-variants.{WellFormed, Bad as BadAt}
 
--- one more, where it could be read, and those after it; the first that could not is refusal 31 at its start
+-- one more, where it could be read, and those after it; the first that could not is refusal 31 at
+-- its start
 abbrev pub consed : {A : Type 0} → Answer A → ℕ → (A → ℕ → Answer (List A)) → Answer (List A)
 consed (accepted a q) p rest = andThen (rest a q) (λ l e. accepted (a ∷ l) e)
 consed (refused n o) p rest = refused 31 p
 
--- entries from the place p on, as long as `more` says that one follows, each given the state that those before it made. Every entry has five
--- bytes at least, so that as many turns as there are bytes are enough
+-- entries from the place p on, as long as `more` says that one follows, each given the state that
+-- those before it made. Every entry has five bytes at least, so that as many turns as there are
+-- bytes are enough
 unfoldable pub asMany : {S A : Type 0} → (List ℕ → ℕ → Bool) → (S → Reading A) → (S → A → S) → ℕ → S → List ℕ → ℕ → Answer (List A)
 asMany more m f zero z s p = accepted [] p
 asMany more m f (suc turns) z s p =
@@ -65,6 +67,7 @@ next last = do
   must (follows last (e .content .key))
   done e
 
+-- the key of an entry is the last one for the entry after it
 abbrev pub keyOf : Last → SheetEntry → Last
 keyOf last e = lastKey (e .content .key)
 
@@ -133,7 +136,8 @@ abbrev pub countOf : {A : Type 0} → Answer (List A) → Counted
 countOf (accepted l q) = Counts (length l) q
 countOf (refused n p) = BadEntry p
 
--- how many metadata entries and how many tensors there are, and where the tensors begin; or the first entry that is bad
+-- how many metadata entries and how many tensors there are, and where the tensors begin; or the
+-- first entry that is bad
 abbrev pub checkedOf : Answer Records → Checked
 checkedOf (accepted c e) = WellFormed (length (c .entries)) (length (c .tensors)) (c .first)
 checkedOf (refused n p) = BadAt p

@@ -1,4 +1,5 @@
-// The record sheet: metadata entries with ascending keys and then tensors, from which a header is written.
+// The record sheet: metadata entries with ascending keys and then tensors, from which a header is
+// written.
 //
 // `check` tells whether a sheet is well formed and how many records it has; `entry_at` and
 // `tensor_at` tell where the parts of one entry are, and `known_entry` those of an entry that was
@@ -6,10 +7,10 @@
 // in it.
 use fields::Number;
 use fields::Width;
-use values::Dialect;
 use scalars::ScalarWidth;
 use tensors::Shape;
 use tensors::ShapeRead;
+use values::Dialect;
 use values::Span;
 ghost use mathlib.Core.Path.{_≡_};
 ghost use mathlib.Core.Bool.{true};
@@ -89,7 +90,8 @@ pub enum Counted {
     Bad { place: usize },
 }
 
-// How many metadata entries and how many tensors there are, and where the tensors begin; or the start of the first entry that is bad.
+// How many metadata entries and how many tensors there are, and where the tensors begin; or the
+// start of the first entry that is bad.
 pub enum Checked {
     WellFormed {
         entries: usize,
@@ -481,7 +483,8 @@ fn check_tensors(s: &[u8], at: usize) -> Counted
     Counted::Counts { count, next: from }
 }
 
-// Whether a sheet is well formed: how many records it has and where its tensors begin, or its first bad entry.
+// Whether a sheet is well formed: how many records it has and where its tensors begin, or its first
+// bad entry.
 pub fn check(s: &[u8]) -> Checked
     ensures { λ r. ⌜ r ≡ sheet.checkedOf (sheet.sheetOf (now (s .entry))) ⌝ }
 {

@@ -1,4 +1,4 @@
--- The whole run after each of its stages: the start, the entries, the tensors, and the start of the data. Assumes nothing.
+-- Where the two counts were accepted, there are rows for as many. Assumes nothing.
 use Prim.Native.Nat.{ℕ, _≤_}
 use mathlib.Core.List.{List}
 use lib.Dec.{leb}

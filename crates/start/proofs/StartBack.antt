@@ -1,4 +1,4 @@
--- A header that was written reads back: its sheet, its alignment, its end and the start of its data, in every version and byte order. Assumes nothing.
+-- What is written before the records is read back. Assumes nothing.
 use Prim.Native.Nat.{ℕ, _≤_}
 use mathlib.Core.Path.{_≡_, refl}
 use mathlib.Core.List.{List, _++_}

@@ -1,4 +1,4 @@
--- Where the entries of a header begin, past the magic, the version and the two counts, and that they are read again there. Assumes nothing.
+-- Where the records begin: past the magic, the version and the two counts. Assumes nothing.
 use Prim.Native.Nat.{ℕ, _+_}
 use mathlib.Core.Path.{_≡_, refl, sym, ap, _∙_}
 use mathlib.Core.Bool.{Bool, false}

@@ -1,4 +1,5 @@
--- Ceilings before the first record: the magic and the counts have no mark, and no version is above 3. Assumes nothing.
+-- Ceilings before the first record: the magic and the counts have no mark, and no version is above
+-- 3. Assumes nothing.
 use Prim.Native.Nat.{ℕ, _≤_}
 use mathlib.Core.Path.{_≡_}
 use mathlib.Core.List.{List}

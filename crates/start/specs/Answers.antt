@@ -1,4 +1,5 @@
--- What the code's answers say, and the run that an answer and both tables come from.
+-- What the code's answers say: what was read with the place after it, or the refusal's number and
+-- place.
 use mathlib.Core.Bool.{Bool}
 use Rattle.reading.specs.Reading.{Answer, accepted, refused}
 use Rattle.values.specs.declared.Dialect.{Dialect}

@@ -1,10 +1,11 @@
--- The whole header: magic, version, the two counts, the entries, the tensors, the alignment, and where the data starts.
---
--- It goes in the order of the file; each check comes as soon as its field is read. The refusals, beside those of the records:
---    2  the magic of an older format; 3 any other magic that is not this one's; both at 0
---    4  a version other than 1, 2 and 3, at the version; `mark` says that one was found known (5 above a reader's ceiling)
+-- What stands before the records of a header: magic, version, and the two counts. Each check comes
+-- as soon as its field is read. The refusals:
+--    2  the magic of an older format, at 0
+--    3  any other magic that is not this one's, at 0
+--    4  a version other than 1, 2 and 3, at the version; `mark` says that one was found known (5
+--       above
+--       a reader's ceiling)
 --    6  more tensors, or more entries, than rows, at that count, once both are read
---   18  a data offset above 2 ^ 64 - 1, at the header's end, last of all
 use Prim.Native.Nat.{ℕ}
 use mathlib.Core.Bool.{Bool, true, false}
 use lib.Dec.{leb, eqb}

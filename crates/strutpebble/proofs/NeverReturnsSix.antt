@@ -1,4 +1,5 @@
--- The exported functions that take no rows never return 6, the number of 'more records than rows'. Assumes nothing.
+-- The exported functions that take no rows never return 6, the number of 'more records than rows'.
+-- Assumes nothing.
 use Prim.Native.Nat.{ℕ}
 use mathlib.Core.Path.{_≡_, refl, sym, ap, _∙_}
 use mathlib.Core.List.{List}

@@ -1,4 +1,5 @@
--- As many rows as a header counts are enough: a reader with them says of the header what measuring says, whatever its cap. Assumes nothing.
+-- As many rows as a header counts are enough: a reader with them says of the header what measuring
+-- says, whatever its cap. Assumes nothing.
 use Prim.Native.Nat.{ℕ, zero, suc, _≤_}
 use mathlib.Core.Path.{_≡_, refl, sym, ap, _∙_}
 use mathlib.Core.List.{List, _∷_}
@@ -156,7 +157,8 @@ module _ (l : Limits) (cap : ℕ) (rooms : Rooms) (s : List ℕ) (c : Start) (p 
   same-entries (refused n q) f =
       ap (seen (λ w. w .head)) (no-entries l rooms cap s begins (f ∙ entries-same (c .dialect) 3 cap s (c .entries) 32 p) ∙ sym (no-entries l enough 3 s began f))
 
-  -- where the counts are read, and there are rows for as many, the reader says what measuring says: a header or a refusal
+  -- where the counts are read, and there are rows for as many, the reader says what measuring says:
+  -- a header or a refusal
   pub same-answer : ours ≡ measured l s
   same-answer = same-entries _ refl
 

@@ -1,8 +1,9 @@
-// The functions that C and other languages link: numbers and slices only, thin over the proved crates.
-// include/strutpebble.h declares them.
+// The functions that C and other languages link: numbers and slices only, thin over the proved
+// crates. include/strutpebble.h declares them.
 //
-// Each returns 0, or a number that says why there is no answer: a refusal's, or a TOLD_ constant of lookup or of words. Each
-// writes all eight words of the answer that it was lent: the answer's own, or of a refusal its place and seven zeros.
+// Each returns 0, or a number that says why there is no answer: a refusal's, or a TOLD_ constant of
+// lookup or of words. Each writes all eight words of the answer that it was lent: the answer's own,
+// or of a refusal its place and seven zeros.
 use reading::Limits;
 use rows::EntryRow;
 use rows::TensorRow;
@@ -53,8 +54,8 @@ pub extern "C" fn sp_read(
     words::number_of(read)
 }
 
-// Measures a header, whatever its counts: 0 with its words in answer, of which the counts are the rows that sp_read needs, or the refusal's
-// number with its place.
+// Measures a header, whatever its counts: 0 with its words in answer, of which the counts are the
+// rows that sp_read needs, or the refusal's number with its place.
 #[no_mangle]
 pub extern "C" fn sp_measure(prefix: &[u8], versions: u32, kinds: u32, answer: &mut [u64; 8]) -> u64
     ensures { λ r. ⌜ r ≡ numberOf (measured (record { versions = versions; kinds = kinds }) (now (prefix .entry))) ⌝ }
@@ -69,7 +70,8 @@ pub extern "C" fn sp_measure(prefix: &[u8], versions: u32, kinds: u32, answer: &
     words::number_of(read)
 }
 
-// Whether the data of every tensor row ends inside a file: 0, or 20 with the number of the first that does not in answer.
+// Whether the data of every tensor row ends inside a file: 0, or 20 with the number of the first
+// that does not in answer.
 #[no_mangle]
 pub extern "C" fn sp_check_ranges(
     tensors: &[TensorRow],
@@ -85,7 +87,8 @@ pub extern "C" fn sp_check_ranges(
     words::range_number(check)
 }
 
-// Looks a key up: 0 with the row of its last entry in answer, or 100 where there is none, or the refusal's number with its place.
+// Looks a key up: 0 with the row of its last entry in answer, or 100 where there is none, or the
+// refusal's number with its place.
 #[no_mangle]
 pub extern "C" fn sp_find(prefix: &[u8], key: &[u8], answer: &mut [u64; 8]) -> u64
     ensures { λ r. ⌜ r ≡ entryNumber (lookup (now (key .entry)) (now (prefix .entry))) ⌝ }
@@ -96,8 +99,8 @@ pub extern "C" fn sp_find(prefix: &[u8], key: &[u8], answer: &mut [u64; 8]) -> u
     words::entry_number(found)
 }
 
-// The string of a key: 0 with its place and length in answer, or 100 where there is no such key, 101 where its value is no string, or the
-// refusal's number with its place.
+// The string of a key: 0 with its place and length in answer, or 100 where there is no such key,
+// 101 where its value is no string, or the refusal's number with its place.
 #[no_mangle]
 pub extern "C" fn sp_find_string(prefix: &[u8], key: &[u8], answer: &mut [u64; 8]) -> u64
     ensures { λ r. ⌜ r ≡ stringNumber (lookup (now (key .entry)) (now (prefix .entry))) ⌝ }
@@ -118,7 +121,8 @@ pub extern "C" fn sp_model_family(prefix: &[u8], answer: &mut [u64; 8]) -> u64
     sp_find_string(prefix, b"general.architecture", answer)
 }
 
-// The file's type: 0 with its number in answer, or 102 where it is unknown, or the refusal's number with its place.
+// The file's type: 0 with its number in answer, or 102 where it is unknown, or the refusal's number
+// with its place.
 #[no_mangle]
 pub extern "C" fn sp_file_type(prefix: &[u8], answer: &mut [u64; 8]) -> u64
     ensures { λ r. ⌜ r ≡ typeNumber (fileTypeIn (lookup fileTypeKey (now (prefix .entry)))) ⌝ }
@@ -129,7 +133,8 @@ pub extern "C" fn sp_file_type(prefix: &[u8], answer: &mut [u64; 8]) -> u64
     words::type_number(told)
 }
 
-// How a file is told: its version, and whether the big end comes first, which any number but 0 says.
+// How a file is told: its version, and whether the big end comes first, which any number but 0
+// says.
 fn dialect_of(version: u32, big: u32) -> Dialect
     ensures { λ r. ⌜ r ≡ dialectOf version big ⌝ }
 {
@@ -139,8 +144,9 @@ fn dialect_of(version: u32, big: u32) -> Dialect
     }
 }
 
-// Writes the header of a sheet, and zeros up to the start of its data: 0 with the header's end and the start of the data in answer, or the
-// refusal's number with its place, and then the output is as it was.
+// Writes the header of a sheet, and zeros up to the start of its data: 0 with the header's end and
+// the start of the data in answer, or the refusal's number with its place, and then the output is
+// as it was.
 #[no_mangle]
 pub extern "C" fn sp_write(
     sheet: &[u8],

@@ -1,4 +1,5 @@
--- A table of which only the first part is lent to a reader is filled as if it had been lent whole, with room for as many as the part has. Assumes nothing.
+-- A table of which only the first part is lent to a reader is filled as if it had been lent whole,
+-- with room for as many as the part has. Assumes nothing.
 use Prim.Native.Nat.{ℕ, zero, suc, _≤_, min}
 use mathlib.Core.Path.{_≡_, refl, sym, ap, _∙_}
 use mathlib.Core.List.{List, [], _∷_, _++_, map, append-assoc}

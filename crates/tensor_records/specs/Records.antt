@@ -64,6 +64,7 @@ tensorsIn (NoHeader n p) = 0
 abbrev pub tensorRecord : Tensor → TensorRecord
 tensorRecord t = recordOf (tensorRow t)
 
--- the run that a reader of records answers and fills from: there is room for as many tensors as there are both rows and records
+-- the run that a reader of records answers and fills from: there is room for as many tensors as
+-- there are both rows and records
 abbrev pub listingOf : Limits → ℕ → List (List ℕ) → List (List ℕ) → List TensorRecord → List ℕ → Answer FullHeader
 listingOf limits cap entries rows records s = readerRun limits cap entries (take (length records) rows) s

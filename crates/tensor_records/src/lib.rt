@@ -1,8 +1,9 @@
 // Tensor records in a lent slice of structs, above the rows of numbers.
 //
-// Each function here is thin: it takes the slice apart and leaves the work to functions over rows. Whoever is content with rows needs none of it.
-use reading::Limits;
+// Each function here is thin: it takes the slice apart and leaves the work to functions over rows.
+// Whoever is content with rows needs none of it.
 use header::HeaderRead;
+use reading::Limits;
 use rows::DIMENSIONS;
 use rows::EntryRow;
 use rows::FIRST_LENGTH;
@@ -26,7 +27,8 @@ ghost use Rattle.tensors.specs.Rows.{tensorRow};
 ghost use Rattle.header.specs.Answers.{asHeader, readerRun};
 ghost use Rattle.tensor_records.specs.Records.{recordOf, gotAt, keptOf, putAt, filledFrom, tensorsIn, tensorRecord, listingOf};
 
-// A tensor's record: where its name is, its kind, its stated count of dimensions, its four lengths, its offset and its size.
+// A tensor's record: where its name is, its kind, its stated count of dimensions, its four lengths,
+// its offset and its size.
 pub struct TensorRecord {
     pub name_place: u64,
     pub name_len: u64,
@@ -107,7 +109,8 @@ fn record_at(rows: &[TensorRow], i: usize) -> TensorRecord
     record_of(rows[i])
 }
 
-// Fills the first records from the first n rows, as far as there are both, and tells how many it filled. The other records stay as they were.
+// Fills the first records from the first n rows, as far as there are both, and tells how many it
+// filled. The other records stay as they were.
 pub fn fill(records: &mut [TensorRecord], rows: &[TensorRow], n: usize) -> usize
     ensures { λ r. ⌜ (r ≡ min n (min (length (now (rows .entry))) (length (now (records .entry))))) × (now (records .exit) ≡ filledFrom (now (records .entry)) (take n (now (rows .entry)))) ⌝ }
 {
@@ -147,8 +150,9 @@ fn tensors_in(answer: HeaderRead) -> usize
     }
 }
 
-// Reads a header as `header::read` does, and lists its tensors as records too. The rows are what it works on: there is room for no more tensors than there are
-// rows and records. Where it refuses, all that it was lent stays as it was.
+// Reads a header as `header::read` does, and lists its tensors as records too. The rows are what it
+// works on: there is room for no more tensors than there are rows and records. Where it refuses,
+// all that it was lent stays as it was.
 pub fn read_records(
     s: &[u8],
     limits: Limits,

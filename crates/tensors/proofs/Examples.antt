@@ -1,4 +1,4 @@
--- Worked records, computed by the checker. Assumes nothing.
+-- Worked tensors, computed by the checker. Assumes nothing.
 use mathlib.Core.Bool.{true}
 use Rattle.values.specs.declared.Dialect.{Dialect}
 use Prim.Native.Nat.{ℕ}

@@ -1,28 +1,26 @@
--- What was accepted once can be read again with no test: each field of a tensor stands where those before it end. Assumes nothing.
-use Prim.Native.Nat.{ℕ, _+_, _-_, _*_, _/_, _^_, _≤_, _<_, min}
+-- What was accepted once can be read again with no test: each field of a tensor stands where those
+-- before it end. Assumes nothing.
+use Prim.Native.Nat.{ℕ, _+_, _-_, _*_, _^_, _≤_, _<_, min}
 use mathlib.Core.Path.{_≡_, refl, sym, ap, subst, _∙_}
-use mathlib.Core.List.{List, [], _∷_}
-use mathlib.Core.Bool.{Bool, true, false}
+use mathlib.Core.List.{List}
+use mathlib.Core.Bool.{Bool, true}
 use native.Mathlib.Omega.{arith}
-use native.Mathlib.Nat.{one-mul}
 use lib.Dec.{leb, ltb}
 use lib.ListN.{length, take, drop}
 use lib.Seq.{take-take}
 use borrow.Author.Tests.{leb-true, ltb-true, ltb-false}
 use Rattle.reading.specs.Back.{Sure}
-use Rattle.reading.specs.Choice.{if_then_else_}
 use Rattle.reading.specs.Each.{each}
 use Rattle.reading.specs.Reading.{aKind, Answer, accepted, refused, run, here, isAccepted, _>>=_}
 use Rattle.fields.specs.Value.{value, number}
 use Rattle.reading.proofs.RunLaws.{goes-on}
 use Rattle.reading.proofs.SureLaws.{sure-then, sure-done, sure-here, sure-mark, sure-check, sure-if, sure-field, sure-so, sure-run, whatever}
 use Rattle.reading.proofs.Repetition.{each-never}
-use Rattle.kinds.specs.Shape.{greatest, productOf, productsFitFrom, productsFit, bytesBefore, sizeFits, sizeOf}
-use Rattle.kinds.specs.Table.{blockOf, knownKind}
+use Rattle.kinds.specs.Shape.{greatest, productOf, productsFit, sizeFits}
+use Rattle.kinds.specs.Table.{knownKind}
 use Rattle.tensors.specs.Format.{lengths, lengthAt, lengthsOf, shape, kindAndOffset, tensor, totalOf}
 use Rattle.values.specs.Format.{sizeWidth, size, textLooking, text}
 use Rattle.tensors.specs.Steps.{lengthIn, shapeIn, inOrder, afterName, tensorOf}
-use Rattle.kinds.specs.declared.Block.{Block}
 use Rattle.values.specs.declared.Dialect.{Dialect}
 use Rattle.tensors.specs.declared.Shape.{Shape}
 use Rattle.values.specs.declared.Span.{Span}
@@ -216,7 +214,8 @@ sure-parts k s total p =
       size = fits;
     }))))))))
 
--- a name and what stands after it are a tensor, where the total is the one given, and all of it fits
+-- a name and what stands after it are a tensor, where the total is the one given, and all of it
+-- fits
 pub record Found (k : Dialect) (s : List ℕ) (p total : ℕ) (a : Span) (x : AfterName) : Type 0 where
   pub read : accepted (tensorOf a x) (x .next) ≡ run (tensor k total) s p
   pub known : knownKind (x .kind) ≡ true

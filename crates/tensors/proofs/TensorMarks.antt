@@ -1,4 +1,5 @@
--- Which marks the records have: an entry none, and a tensor none above 39, so that ceilings from there on change nothing. Assumes nothing.
+-- A tensor has one mark, and no known kind is above 39: ceilings from there on change nothing.
+-- Assumes nothing.
 use Prim.Native.Nat.{ℕ, _+_, _≤_}
 use mathlib.Core.Path.{_≡_, refl, ap}
 use mathlib.Core.List.{List}

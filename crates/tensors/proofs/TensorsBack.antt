@@ -1,4 +1,4 @@
--- What is written is read back: each record by the laws of its fields. Assumes nothing.
+-- What is written of a tensor is read back: each part by the laws of its fields. Assumes nothing.
 use Prim.Native.Nat.{ℕ, _+_}
 use mathlib.Core.Path.{_≡_, refl, sym, ap}
 use mathlib.Core.List.{List, [], _∷_, _++_, map, append-assoc}

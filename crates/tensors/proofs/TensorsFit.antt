@@ -1,4 +1,4 @@
--- What is accepted fits: whatever records a reader accepts can be written. Assumes nothing.
+-- What is accepted fits: whatever tensor a reader accepts can be written. Assumes nothing.
 use Prim.Native.Nat.{ℕ, _+_, _≤_}
 use mathlib.Core.Path.{_≡_, refl, ap}
 use mathlib.Core.List.{List, map}

@@ -1,4 +1,5 @@
--- The running total of the tensors' parameters: with a tensor that was accepted it still fits. Assumes nothing.
+-- The running total of the tensors' parameters: with a tensor that was accepted it still fits.
+-- Assumes nothing.
 use Prim.Native.Nat.{ℕ, _+_, _≤_}
 use mathlib.Core.Path.{_≡_}
 use mathlib.Core.List.{List}

@@ -1,4 +1,5 @@
--- What the code's answers say: the value with the place after it, or the refusal's number and place.
+-- What the code's answers say: the value with the place after it, or the refusal's number and
+-- place.
 use Rattle.reading.specs.Reading.{Answer, accepted, refused}
 use Rattle.tensors.specs.declared.Shape.{Shape}
 use Rattle.tensors.specs.declared.ShapeRead.{ShapeRead}

@@ -1,6 +1,8 @@
--- What records say, without their places; the bytes that say it; and what stands at the places of what was read.
+-- What tensors say, without their places; the bytes that say it; and what stands at the places of
+-- what was read.
 --
--- Beside each form of `Format` stand its bytes and its view, with the same fields in the same order.
+-- Beside each form of `Format` stand its bytes and its view, with the same fields in the same
+-- order.
 use Prim.Native.Nat.{ℕ, _+_, _≤_}
 use mathlib.Core.Path.{_≡_}
 use mathlib.Core.Bool.{true}
@@ -24,24 +26,30 @@ pub record TensorContent : Type 0 where
   pub offset : ℕ
   pub size : ℕ
 
--- the content of a tensor of that name, shape, kind and offset: its size is that of its shape and kind
+-- the content of a tensor of that name, shape, kind and offset: its size is that of its shape and
+-- kind
 abbrev pub contentOf : List ℕ → Shape → ℕ → ℕ → TensorContent
 contentOf name x k o = record { name = name; shape = x; kind = k; offset = o; size = sizeOf (lengths x) k }
 
+-- the length at the place i of n dimensions, and no bytes beyond those
 unfoldable pub lengthBytes : Dialect → ℕ → ℕ → ℕ → List ℕ
 lengthBytes k n i v = if ltb i n then bytesOf (k .big) 8 v else []
 
+-- the count of dimensions, and that many lengths
 unfoldable pub shapeBytes : Dialect → Shape → List ℕ
 shapeBytes k x =
     typeBytes k (x .dimensions) ++ lengthBytes k (x .dimensions) 0 (x .first) ++ lengthBytes k (x .dimensions) 1 (x .second) ++
     lengthBytes k (x .dimensions) 2 (x .third) ++ lengthBytes k (x .dimensions) 3 (x .fourth)
 
+-- a kind and an offset
 unfoldable pub kindAndOffsetBytes : Dialect → ℕ → ℕ → List ℕ
 kindAndOffsetBytes k t o = typeBytes k t ++ bytesOf (k .big) 8 o
 
+-- a tensor: its name, its shape, its kind and its offset. Its size is not written
 unfoldable pub tensorBytes : Dialect → TensorContent → List ℕ
 tensorBytes k t = textBytes k (t .name) ++ shapeBytes k (t .shape) ++ kindAndOffsetBytes k (t .kind) (t .offset)
 
+-- a tensor that was read, with the bytes of its name
 abbrev pub tensorContent : List ℕ → Tensor → TensorContent
 tensorContent s t = record { name = bytesAt s (t .name); shape = t .shape; kind = t .kind; offset = t .offset; size = t .size }
 

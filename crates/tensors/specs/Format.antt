@@ -1,13 +1,11 @@
--- The records of a model file's header, as programs of fields: what stands where, and which refusal is given, at which place.
---
--- It goes in the order of the public GGUF document: sizes, texts, value types, arrays, entries, tensors. The refusals:
---    1  a field that is not wholly there, at the field (`run` gives it, for every program)
---    7  a text of more than 2 ^ 30 bytes, at its size
---    8  a value type or an item type above 12, at the type
---    9  an item that is an array where no deeper array is allowed, at the item type
+-- The tensors of a model file's header, as programs of fields: what stands where, and which refusal
+-- is given, at which place. The refusals, beside those of a name's text:
 --   10  more than four dimensions, at their count
---   11  a number that names no kind, at the kind; `mark` says that one was found known (12 above a reader's ceiling)
---   13, 14, 15  a product of lengths, a size before its division, a running total of products above 2 ^ 64 - 1, at the tensor's start
+--   11  a number that names no kind, at the kind; `mark` says that one was found known (12 above a
+--       reader's ceiling)
+--   13  a product of lengths above 2 ^ 64 - 1, at the tensor's start
+--   14  a size before its division above 2 ^ 64 - 1, at the tensor's start
+--   15  a running total of products above 2 ^ 64 - 1, at the tensor's start
 use Prim.Native.Nat.{ℕ, _+_}
 use mathlib.Core.List.{List, [], _∷_}
 use lib.Dec.{leb, ltb}
@@ -46,6 +44,7 @@ shape k = do
   check (leb n 4) 10 p
   lengthsOf k n
 
+-- the four lengths of a shape, as products take them
 abbrev pub lengths : Shape → List ℕ
 lengths x = x .first ∷ x .second ∷ x .third ∷ x .fourth ∷ []
 
@@ -59,7 +58,8 @@ kindAndOffset k = do
   mark aKind t p
   done (record { kind = t; offset = o })
 
--- the tensor of what stands at p, after tensors whose products come to total: its products, its size and the new total must fit
+-- the tensor of what stands at p, after tensors whose products come to total: its products, its
+-- size and the new total must fit
 abbrev pub fitting : ℕ → ℕ → Span → Shape → KindAndOffset → Reading Tensor
 fitting p total name x y = do
   check (productsFit (lengths x)) 13 p
@@ -67,7 +67,8 @@ fitting p total name x y = do
   check (leb (total + productOf (lengths x)) greatest) 15 p
   done (record { name = name; shape = x; kind = y .kind; offset = y .offset; parameters = productOf (lengths x); size = sizeOf (lengths x) (y .kind) })
 
--- a tensor, after tensors whose products come to total: its name, shape, kind and offset, and then what must fit
+-- a tensor, after tensors whose products come to total: its name, shape, kind and offset, and then
+-- what must fit
 unfoldable pub tensor : Dialect → ℕ → Reading Tensor
 tensor k total = do
   p ← here

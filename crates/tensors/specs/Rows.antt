@@ -1,4 +1,4 @@
--- A record as a row of words: seven for an entry, ten for a tensor.
+-- A tensor as a row of ten words (crates/rows names the columns).
 use Prim.Native.Nat.{ℕ}
 use mathlib.Core.List.{List, [], _∷_}
 use Rattle.tensors.specs.declared.Tensor.{Tensor}

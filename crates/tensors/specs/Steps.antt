@@ -1,4 +1,4 @@
--- What the reader's private steps are held to: rows that are kept while a header is tested, and tensors that are read again. No contract of a public function cites it.
+-- What the steps that read a tensor again are held to. No contract of a step that tests cites it.
 use Prim.Native.Nat.{ℕ, _+_, _*_}
 use mathlib.Core.Bool.{Bool}
 use mathlib.Core.List.{List}

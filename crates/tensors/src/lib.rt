@@ -1,6 +1,7 @@
 // Tensors of a header, read at a place as the format says (specs/Format.antt), and their rows.
 //
-// `read_tensor` tests everything. The steps after it read a tensor again that was accepted before, and test nothing.
+// `read_tensor` tests everything. The steps after it read a tensor again that was accepted before,
+// and test nothing.
 use fields::Number;
 use fields::Width;
 use kinds::Bounded;
@@ -206,9 +207,21 @@ pub fn read_tensor(s: &[u8], at: usize, dialect: Dialect, total: u64, limits: Li
             next: p,
         } => match read_shape(s, p, dialect) {
             ShapeRead::Refused { why, place } => TensorRead::Refused { why, place },
-            ShapeRead::Found { shape, next: q } => match read_kind_and_offset(s, q, dialect, limits) {
+            ShapeRead::Found { shape, next: q } => match read_kind_and_offset(
+                s,
+                q,
+                dialect,
+                limits,
+            ) {
                 KindAndOffsetRead::Refused { why, place } => TensorRead::Refused { why, place },
-                KindAndOffsetRead::Found { stored, next } => fitting_tensor(at, total, name, shape, stored, next),
+                KindAndOffsetRead::Found { stored, next } => fitting_tensor(
+                    at,
+                    total,
+                    name,
+                    shape,
+                    stored,
+                    next,
+                ),
             },
         },
     }

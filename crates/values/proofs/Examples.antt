@@ -1,4 +1,4 @@
--- Worked records, computed by the checker. Assumes nothing.
+-- Worked entries, computed by the checker. Assumes nothing.
 use Prim.Native.Nat.{ℕ}
 use mathlib.Core.Path.{_≡_, refl}
 use mathlib.Core.List.{List, [], _∷_}

@@ -1,4 +1,5 @@
--- Sizes and texts: where they end, what is looked at of them, and how a word is compared. Assumes nothing.
+-- Sizes and texts: where they end, what is looked at of them, and how a word is compared. Assumes
+-- nothing.
 use Rattle.values.specs.Contents.{insideOf}
 use Prim.Native.Nat.{ℕ, zero, suc, _+_, _^_, _≤_, _<_, min}
 use mathlib.Core.Path.{_≡_, refl, sym, ap, _∙_}

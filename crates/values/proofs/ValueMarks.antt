@@ -1,4 +1,4 @@
--- Which marks the records have: an entry none, and a tensor none above 39, so that ceilings from there on change nothing. Assumes nothing.
+-- No entry has a mark, so ceilings change nothing of it. Assumes nothing.
 use Prim.Native.Nat.{ℕ, zero, suc, _^_}
 use mathlib.Core.Path.{_≡_}
 use mathlib.Core.List.{List}

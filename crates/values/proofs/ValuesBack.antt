@@ -1,4 +1,4 @@
--- What is written is read back: each record by the laws of its fields. Assumes nothing.
+-- What is written of an entry is read back: each part by the laws of its fields. Assumes nothing.
 use Prim.Native.Nat.{ℕ, zero, suc, _^_, _≤_, _<_}
 use mathlib.Core.Path.{_≡_, refl, ap, _∙_}
 use mathlib.Core.List.{List, [], _∷_, _++_, map, append-assoc}

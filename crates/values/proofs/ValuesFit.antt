@@ -1,4 +1,4 @@
--- What is accepted fits: whatever records a reader accepts can be written. Assumes nothing.
+-- What is accepted fits: whatever entry a reader accepts can be written. Assumes nothing.
 use Prim.Native.Nat.{ℕ, zero, suc, _^_, _≤_, _<_}
 use mathlib.Core.Path.{_≡_, sym, ap, subst}
 use mathlib.Core.List.{List, map}

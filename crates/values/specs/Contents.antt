@@ -1,6 +1,8 @@
--- What records say, without their places; the bytes that say it; and what stands at the places of what was read.
+-- What entries say, without their places; the bytes that say it; and what stands at the places of
+-- what was read.
 --
--- Beside each form of `Format` stand its bytes and its view, with the same fields in the same order.
+-- Beside each form of `Format` stand its bytes and its view, with the same fields in the same
+-- order.
 use Prim.Native.Nat.{ℕ, zero, suc, _+_, _^_, _≤_, _<_}
 use mathlib.Core.Path.{_≡_}
 use mathlib.Core.Bool.{Bool}
@@ -20,13 +22,15 @@ use Rattle.values.specs.declared.Entry.{Entry}
 use Rattle.values.specs.Format.{sizeWidth, begins, isWord, alignmentKey, tokenizerKey, valueOf, array, depth}
 use Rattle.scalars.specs.Scalars.{scalarWidth, scalarType, scalarBits, FitsScalar}
 
--- a value: a scalar's type and bits; a text's bytes; or the type of an array's items, and what each of them says
+-- a value: a scalar's type and bits; a text's bytes; or the type of an array's items, and what each
+-- of them says
 pub data ValueContent (I : Type 0) : Type 0 where
   aScalar : ℕ → ℕ → ValueContent I
   aText : List ℕ → ValueContent I
   anArray : ℕ → List I → ValueContent I
 
--- what a value says in which fewer than so many arrays stand in one another; of none nothing can be said
+-- the content of a value in which fewer than so many arrays stand in one another; below one there
+-- is none
 abbrev pub Content : ℕ → Type 0
 Content zero = Unit {0}
 Content (suc d) = ValueContent (Content d)
@@ -42,6 +46,7 @@ pub record FlaggedKey : Type 0 where
   pub «is_alignment» : Bool
   pub «is_tokenizer» : Bool
 
+-- what the bytes of a key decide
 abbrev pub flaggedKey : List ℕ → FlaggedKey
 flaggedKey b = record { key = b; «is_alignment» = isWord alignmentKey b; «is_tokenizer» = begins tokenizerKey b }
 
@@ -50,17 +55,21 @@ pub record FlaggedEntry : Type 0 where
   pub content : EntryContent
   pub «is_alignment» : Bool
 
+-- whether an entry's key is the alignment's
 abbrev pub flaggedEntry : EntryContent → FlaggedEntry
 flaggedEntry e = record { content = e; «is_alignment» = isWord alignmentKey (e .key) }
 
 -- The bytes.
 
+-- a size, in the width of the version
 unfoldable pub sizeBytes : Dialect → ℕ → List ℕ
 sizeBytes k n = bytesOf (k .big) (sizeWidth k) n
 
+-- a text: its size and its bytes
 unfoldable pub textBytes : Dialect → List ℕ → List ℕ
 textBytes k b = sizeBytes k (length b) ++ b
 
+-- a type
 unfoldable pub typeBytes : Dialect → ℕ → List ℕ
 typeBytes k t = bytesOf (k .big) 4 t
 
@@ -77,11 +86,13 @@ valueBytes (suc d) k (aScalar t v) = bytesOf (k .big) (scalarWidth t) v
 valueBytes (suc d) k (aText b) = textBytes k b
 valueBytes (suc d) k (anArray t l) = typeBytes k t ++ sizeBytes k (length l) ++ bytesOfAll (valueBytes d k) l
 
+-- an entry: its key, its value's type and its value
 unfoldable pub entryBytes : Dialect → EntryContent → List ℕ
 entryBytes k e = textBytes k (e .key) ++ typeBytes k (typeOf (e .value)) ++ valueBytes (suc depth) k (e .value)
 
 -- What stands at the places.
 
+-- the bytes where a text is
 abbrev pub bytesAt : List ℕ → Span → List ℕ
 bytesAt s a = take (a .len) (drop (a .place) s)
 
@@ -101,6 +112,7 @@ valueContent (suc d) k s (Single x) = aScalar (scalarType x) (scalarBits x)
 valueContent (suc d) k s (Text a) = aText (bytesAt s a)
 valueContent (suc d) k s (Array a) = anArray (a .item) (itemsAt (valueContent d k s) (valueIn d k 0 (a .item)) (a .count) s (a .first))
 
+-- an entry that was read, with the bytes of its key and the content of its value
 abbrev pub entryContent : Dialect → List ℕ → Entry → EntryContent
 entryContent k s e = record { key = bytesAt s (e .key); value = valueContent (suc depth) k s (e .value) }
 
@@ -121,7 +133,8 @@ abbrev pub typeIn : (d : ℕ) → Content d → ℕ
 typeIn zero c = 0
 typeIn (suc d) c = typeOf c
 
--- a value in which fewer than so many arrays stand in one another; the items of an array are all of its item type
+-- a value in which fewer than so many arrays stand in one another; the items of an array are all of
+-- its item type
 abbrev pub FitsValue : (d : ℕ) → Dialect → Content d → Type 0
 FitsValue zero k c = ⊥
 FitsValue (suc d) k (aScalar t v) = FitsScalar t v

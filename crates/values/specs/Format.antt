@@ -1,13 +1,12 @@
--- The records of a model file's header, as programs of fields: what stands where, and which refusal is given, at which place.
+-- The entries of a model file's header, as programs of fields: what stands where, and which refusal
+-- is given, at which place.
 --
--- It goes in the order of the public GGUF document: sizes, texts, value types, arrays, entries, tensors. The refusals:
+-- It goes in the order of the public GGUF document: sizes, texts, value types, arrays, entries. The
+-- refusals:
 --    1  a field that is not wholly there, at the field (`run` gives it, for every program)
 --    7  a text of more than 2 ^ 30 bytes, at its size
 --    8  a value type or an item type above 12, at the type
 --    9  an item that is an array where no deeper array is allowed, at the item type
---   10  more than four dimensions, at their count
---   11  a number that names no kind, at the kind; `mark` says that one was found known (12 above a reader's ceiling)
---   13, 14, 15  a product of lengths, a size before its division, a running total of products above 2 ^ 64 - 1, at the tensor's start
 use Prim.Native.Nat.{ℕ, zero, suc, _^_, min}
 use mathlib.Core.Bool.{Bool, true, false}
 use mathlib.Core.List.{List, [], _∷_}
@@ -38,7 +37,8 @@ size k = number (sizeWidth k) (k .big)
 
 -- Texts.
 
--- a text of which the first l bytes are looked at: its size, and that many bytes; and what f makes of where it is and of those
+-- a text of which the first l bytes are looked at: its size, and that many bytes; and what f makes
+-- of where it is and of those
 unfoldable pub textLooking : {A : Type 0} → ℕ → (Span → List ℕ → A) → Dialect → Reading A
 textLooking l f k = do
   p ← here
@@ -89,7 +89,8 @@ type k = do
 
 -- Values and arrays.
 
--- a value of the type t: a scalar, a text, or what `arrays` reads as an array. The type itself stands at o
+-- a value of the type t: a scalar, a text, or what `arrays` reads as an array. The type itself
+-- stands at o
 unfoldable pub valueOf : (ℕ → Reading ArraySpan) → Dialect → ℕ → ℕ → Reading Value
 valueOf arrays k o t =
     if ltb 0 (scalarWidth t) then (do
@@ -102,8 +103,10 @@ valueOf arrays k o t =
       a ← arrays o
       done (Array a))
 
--- an array, as an item of the array whose item type stands at o, where so many arrays may still stand in one another:
--- its item type, its count, and its items, of which all are read and none is kept but the place of the first
+-- an array in which, itself counted, so many arrays may stand in one another: its item type, its
+-- count, and its items, of which all are read and none is kept but the place of the first. Where
+-- none may stand it is refused at o, where its own type stands: the item type of the array around
+-- it
 unfoldable pub array : ℕ → Dialect → ℕ → Reading ArraySpan
 array zero k o = refuse 9 o
 array (suc depth) k o = do

@@ -1,8 +1,9 @@
-// Texts, keys, values, arrays and entries of a header, read at a place, each as the format says (specs/Format.antt).
+// Texts, keys, values, arrays and entries of a header, read at a place, each as the format says
+// (specs/Format.antt).
 //
-// Every step takes the bytes and a place and answers what stands there with the place after it, or a refusal's number and
-// place. Any slice, any place and any dialect gets an answer. Nothing is copied, and no byte of a text is looked at but
-// where a key is compared.
+// Every step takes the bytes and a place and answers what stands there with the place after it, or
+// a refusal's number and place. Any slice, any place and any dialect gets an answer. Nothing is
+// copied, and no byte of a text is looked at but where a key is compared.
 use fields::Number;
 use fields::Width;
 use rows::EntryRow;
@@ -48,7 +49,8 @@ pub enum KeyRead {
     Refused { why: u64, place: usize },
 }
 
-// An array: the type of its items, how many there are and how many are kept, and the place of the first.
+// An array: the type of its items, how many there are and how many are kept, and the place of the
+// first.
 pub struct ArraySpan {
     pub item: u64,
     pub count: u64,
@@ -349,7 +351,8 @@ pub fn read_value(s: &[u8], at: usize, dialect: Dialect) -> ValueRead
     }
 }
 
-// The value with its kept count: under a key that starts with "tokenizer." an array keeps at most cap items.
+// The value with its kept count: under a key that starts with "tokenizer." an array keeps at most
+// cap items.
 fn keeping(tokens: bool, cap: u64, value: Value) -> Value
     ensures { λ r. ⌜ r ≡ format.keeping tokens cap value ⌝ }
 {

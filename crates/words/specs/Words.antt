@@ -28,7 +28,8 @@ use Rattle.writer.specs.declared.HeaderWritten.the-variants.{Written, Refused a
 abbrev pub oneWord : ℕ → List ℕ
 oneWord n = n ∷ 0 ∷ 0 ∷ 0 ∷ 0 ∷ 0 ∷ 0 ∷ 0 ∷ []
 
--- what a header says of itself where there are rows enough; which items are kept does not matter to it
+-- what a header says of itself where there are rows enough; which items are kept does not matter to
+-- it
 abbrev pub measured : Limits → List ℕ → Answer Header
 measured limits s = seen (λ w. w .head) (run (under limits (header enough 3)) s 0)
 
@@ -37,7 +38,8 @@ abbrev pub numberOf : Answer Header → ℕ
 numberOf (accepted h q) = 0
 numberOf (refused n p) = n
 
--- version, byte order (1 for the big end first), entries, tensors, alignment, the header's end, the start of the data, 0; of a refusal its place
+-- version, byte order (1 for the big end first), entries, tensors, alignment, the header's end, the
+-- start of the data, 0; of a refusal its place
 abbrev pub wordsOf : Answer Header → List ℕ
 wordsOf (accepted h q) = h .version ∷ (if h .big then 1 else 0) ∷ h .entries ∷ h .tensors ∷ h .alignment ∷ h .end ∷ h .start ∷ 0 ∷ []
 wordsOf (refused n p) = oneWord p
@@ -64,7 +66,8 @@ entryWords (Found e) = entryRow e ++ (0 ∷ [])
 entryWords Absent = oneWord 0
 entryWords (Refused n p) = oneWord p
 
--- 0 where a string was found, 100 where the key is absent, 101 where its value is of another type, and else the refusal's number
+-- 0 where a string was found, 100 where the key is absent, 101 where its value is of another type,
+-- and else the refusal's number
 abbrev pub stringNumber : Lookup → ℕ
 stringNumber l = getD (stringStatus l) 0 0
 

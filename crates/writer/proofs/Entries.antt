@@ -1,4 +1,5 @@
--- Entries of a sheet as they are written: each one's own bytes, and the place of the alignment's own among them. Assumes nothing.
+-- Entries of a sheet as they are written: each one's own bytes, and the place of the alignment's
+-- own among them. Assumes nothing.
 use Prim.Native.Nat.{ℕ, suc, _+_, _-_, _≤_, _<_}
 use mathlib.Core.Path.{_≡_, refl, sym, ap, subst, _∙_}
 use mathlib.Core.Bool.{Bool, true, false}
@@ -133,7 +134,8 @@ got-there (refused n p) h = let z : _≡_ {A = ℕ} 0 1 = cc in absurd (omega ar
 abbrev pub written : Dialect → Answer (List SheetEntry) → List ℕ
 written k r = bytesOfAll (entryBytes k) (map entryIn (got r))
 
--- total entries of a sheet, n of them before the place q and the others from it on: the alignment's own stands between them
+-- total entries of a sheet, n of them before the place q and the others from it on: the alignment's
+-- own stands between them
 pub record Apart (k : Dialect) (a : ℕ) (s : List ℕ) (total n q : ℕ) : Type 0 where
   pub within : n ≤ total
   pub ends : To q ≡ stepOf (run (times n metadata) s 1)

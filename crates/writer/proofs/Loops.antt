@@ -1,6 +1,7 @@
--- A loop of writers: each turn lends the rest of the output, from the middle, to one that writes what comes next. Assumes nothing.
+-- A loop of writers: each turn lends the rest of the output, from the middle, to one that writes
+-- what comes next. Assumes nothing.
 use Prim.Native.Nat.{ℕ, _+_, _-_, _≤_}
-use mathlib.Core.Path.{_≡_, refl, sym, ap, _∙_}
+use mathlib.Core.Path.{_≡_, refl, _∙_}
 use mathlib.Core.List.{List, [], _++_, append-assoc, append-nil}
 use native.Mathlib.Omega.{arith}
 use lib.ListN.{length, length-append}

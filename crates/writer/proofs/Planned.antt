@@ -1,4 +1,5 @@
--- What a plan tells: that every test of the sheet held, and what the header is made of. Assumes nothing.
+-- What a plan tells: that every test of the sheet held, and what the header is made of. Assumes
+-- nothing.
 use Prim.Native.Nat.{ℕ, zero, suc, _+_, _-_, _≤_, _<_, max}
 use mathlib.Core.Path.{_≡_, refl, sym, ap, _∙_}
 use mathlib.Core.Bool.{Bool, true, false}
@@ -17,7 +18,7 @@ use Rattle.layout.specs.declared.Laid.{Laid}
 use Rattle.layout.specs.Layout.{nothingLaid, layoutOf}
 use Rattle.values.specs.declared.Dialect.{Dialect}
 use Rattle.values.specs.Format.{sizeWidth}
-use Rattle.values.specs.Contents.{EntryContent, entryBytes}
+use Rattle.values.specs.Contents.{entryBytes}
 use Rattle.tensors.specs.Contents.{tensorBytes}
 use Rattle.start.specs.Contents.{startBytes}
 use Rattle.header.specs.Contents.{startIn, headerBytes}
@@ -26,14 +27,13 @@ use Rattle.sheet.specs.Format.{SheetEntry, SheetTensor, metadata, tensor}
 use Rattle.sheet.specs.Sheet.{Records, sheetOf}
 use Rattle.sheet.proofs.PartsFound.{entry-ends}
 use Rattle.sheet.proofs.WholeSheet.{sheet-entries, sheet-tensors}
-use Rattle.plan.specs.declared.Draft.{Draft}
 use Rattle.plan.specs.declared.Plan.{Plan}
 use Rattle.plan.specs.declared.Planned.{Planned}
 use Rattle.plan.specs.declared.Planned.the-variants.{Fine, Refused}
 use Rattle.plan.specs.declared.LaidOut.{LaidOut}
 use Rattle.plan.specs.declared.LaidOut.the-variants.{Fits, Refused as NotLaid}
-use Rattle.plan.specs.Header.{ownAlignment, inserted, entryIn, entriesWith, entriesOf, pieceOf, laidFrom, laidWith, headerContents, recordsIn, endOf, startOf}
-use Rattle.plan.specs.Plan.{requireFormed, requireLaid, canAdd, agrees, laidOf, countsFit, draftOf, planOf, planFor}
+use Rattle.plan.specs.Header.{ownAlignment, entriesWith, entriesOf, pieceOf, laidFrom, laidWith, headerContents, recordsIn, endOf, startOf}
+use Rattle.plan.specs.Plan.{requireFormed, requireLaid, canAdd, agrees, laidOf, countsFit, planOf, planFor}
 use Rattle.header.specs.Format.{isAlignment}
 use Rattle.plan.specs.Steps.{aligned}
 use Rattle.plan.proofs.Sizes.{start-length}

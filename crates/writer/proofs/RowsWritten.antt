@@ -1,4 +1,5 @@
--- Records that a sheet has in a row, read and written one after the other: what is written, and what is left of the sheet. Assumes nothing.
+-- Records that a sheet has in a row, read and written one after the other: what is written, and
+-- what is left of the sheet. Assumes nothing.
 use Prim.Native.Nat.{ℕ, zero, suc, _+_, _-_, _≤_, _<_}
 use mathlib.Core.Path.{_≡_, refl, sym, ap, subst, _∙_}
 use mathlib.Core.Bool.{true}
@@ -42,7 +43,8 @@ pub record Next {A : Type 0} (m : Reading A) (enc : A → List ℕ) (s : List �
   pub room : done + length (enc what) ≤ length out
 
 module _ {A : Type 0} (m : Reading A) (enc : A → List ℕ) (s : List ℕ) (at n : ℕ) where
-  -- i records of n are written, done bytes, and the others, which are all there, stand from the place on
+  -- i records of n are written, done bytes, and the others, which are all there, stand from the
+  -- place on
   pub record Left (o out : List ℕ) (from done i : ℕ) : Type 0 where
     pub low : i ≤ n
     pub all : isAccepted (run (times (n - i) m) s from) ≡ true

@@ -6,12 +6,11 @@ use mathlib.Core.List.{List}
 use native.Mathlib.Omega.{arith}
 use lib.Dec.{leb, eqb}
 use Rattle.reading.specs.Choice.{if_then_else_}
-use Rattle.reading.specs.Reading.{accepted, refused, run, andThen, isAccepted, check, done, _>>_, _>>=_}
+use Rattle.reading.specs.Reading.{accepted, refused, run, isAccepted, check, done, _>>_, _>>=_}
 use Rattle.fields.specs.Value.{number}
-use Rattle.reading.proofs.RunLaws.{run-bind, goes-on, stops}
+use Rattle.reading.proofs.RunLaws.{goes-on, stops}
 use Rattle.scalars.specs.Scalars.{scalarWidth}
 use Rattle.sheet.specs.Format.{scalar}
-use Rattle.writer.specs.Output.{numberIn}
 
 module _ (t : ℕ) (s : List ℕ) (p : ℕ) (there : isAccepted (run (scalar t) s p) ≡ true) where
   -- a number that is not there is no scalar

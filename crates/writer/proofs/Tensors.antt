@@ -1,4 +1,5 @@
--- Tensors written one after the other, each at the offset where the one before it left off. Assumes nothing.
+-- Tensors written one after the other, each at the offset where the one before it left off. Assumes
+-- nothing.
 use Prim.Native.Nat.{ℕ, suc, _+_, _-_, _≤_, _<_}
 use mathlib.Core.Path.{_≡_, sym, ap, _∙_}
 use mathlib.Core.Bool.{true}

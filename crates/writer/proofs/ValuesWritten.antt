@@ -1,4 +1,5 @@
--- What is written of an item or a value that is there: a scalar, a text, or the items of an array in a row. Assumes nothing.
+-- What is written of an item or a value that is there: a scalar, a text, or the items of an array
+-- in a row. Assumes nothing.
 use Prim.Native.Nat.{ℕ, suc, _+_, _-_, _≤_}
 use mathlib.Core.Path.{_≡_, refl, sym, ap, _∙_}
 use mathlib.Core.Bool.{Bool, true, false}

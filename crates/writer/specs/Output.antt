@@ -27,7 +27,8 @@ writtenOf (Refused n p) = NotWritten n p
 unfoldable pub headerFor : Dialect → ℕ → List ℕ → List ℕ
 headerFor k a s = headerBytes k (headerContents a (recordsIn (sheetOf s)))
 
--- the output then: the header, zeros up to the start of its data, and what was there after that; at a refusal all is as it was
+-- the output then: the header, zeros up to the start of its data, and what was there after that; at
+-- a refusal all is as it was
 abbrev pub leftBy : Planned → List ℕ → List ℕ → List ℕ
 leftBy (Fine plan) bytes old = bytes ++ replicate (plan .start - plan .end) 0 ++ drop (plan .start) old
 leftBy (Refused n p) bytes old = old
@@ -40,6 +41,7 @@ entryCount d = if d .adds then d .entries + 1 else d .entries
 abbrev pub lengthSize : ℕ → ℕ → ℕ
 lengthSize n i = if ltb i n then 8 else 0
 
+-- the bytes of a whole shape of n dimensions
 abbrev pub shapeSize : ℕ → ℕ
 shapeSize n = 4 + lengthSize n 0 + lengthSize n 1 + lengthSize n 2 + lengthSize n 3
 

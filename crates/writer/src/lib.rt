@@ -1,4 +1,5 @@
-// The header of a sheet, written field after field: each field writer is lent the rest of the output, from its middle, and answers its count of bytes.
+// The header of a sheet, written field after field: each field writer is lent the rest of the
+// output, from its middle, and answers its count of bytes.
 //
 // `write_header` asks `plan` first, so that a refusal finds the output as it was.
 use fields::Number;
@@ -8,13 +9,13 @@ use layout::Placed;
 use plan::Draft;
 use plan::Plan;
 use plan::Planned;
-use values::Dialect;
 use scalars::ScalarWidth;
-use tensors::Shape;
 use sheet::EntryParts;
 use sheet::TensorFound;
 use sheet::TensorParts;
 use sheet::TextFound;
+use tensors::Shape;
+use values::Dialect;
 ghost use mathlib.Core.Path.{_≡_};
 ghost use mathlib.Core.Bool.{true};
 ghost use mathlib.Core.List.{map, _++_};
@@ -256,7 +257,8 @@ fn write_alignment(out: &mut [u8], alignment: u64, dialect: Dialect) -> usize
     b + fields::put_number(&mut out[b..], alignment, Width::Four, dialect.big)
 }
 
-// How many of n entries, which are all there, come before the alignment's own in the byte order of keys.
+// How many of n entries, which are all there, come before the alignment's own in the byte order of
+// keys.
 fn entries_before(s: &[u8], n: usize) -> usize
     requires { ⌜ isAccepted (run (times n format.metadata) (now s) 1) ≡ true ⌝ }
     ensures { λ r. ⌜ r ≡ output.comingBefore (got (run (times n format.metadata) (now (s .entry)) 1)) ⌝ }
@@ -485,7 +487,8 @@ fn write_records(out: &mut [u8], s: &[u8], plan: Plan, alignment: u64, dialect: 
         )
 }
 
-// Writes the header of a sheet, and zeros up to the start of its data. Where it refuses, the output stays as it was.
+// Writes the header of a sheet, and zeros up to the start of its data. Where it refuses, the output
+// stays as it was.
 pub fn write_header(s: &[u8], dialect: Dialect, alignment: u64, out: &mut [u8]) -> HeaderWritten
     ensures { λ r. ⌜ r ≡ output.writtenOf (plan_of.planFor dialect alignment (length (now (out .entry))) (now (s .entry))) ⌝ }
     ensures { λ r. ⌜ now (out .exit) ≡ output.leftBy (plan_of.planFor dialect alignment (length (now (out .entry))) (now (s .entry))) (output.headerFor dialect alignment (now (s .entry))) (now (out .entry)) ⌝ }

@@ -1,4 +1,5 @@
--- `fields::comes_before` meets its contract. The invariant: from the byte i on the comparison answers what the whole one does. Assumes nothing.
+-- `fields::comes_before` meets its contract. The invariant: from the byte i on the comparison
+-- answers what the whole one does. Assumes nothing.
 use Prim.Native.Nat.{_-_, _≤_}
 use mathlib.Core.Path.{_≡_, refl, sym, _∙_}
 use native.Mathlib.Omega.{arith}

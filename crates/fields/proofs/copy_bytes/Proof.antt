@@ -1,5 +1,5 @@
--- `fields::copy_bytes` meets its contract. The invariant: the first i bytes are src's, and the others as they were.
--- Assumes nothing.
+-- `fields::copy_bytes` meets its contract. The invariant: the first i bytes are src's, and the
+-- others as they were. Assumes nothing.
 use mathlib.Core.Path.{_≡_, refl, ap}
 use mathlib.Core.List.{List, [], _∷_, _++_}
 use Prim.Native.Nat.{ℕ, zero, suc, _-_, _≤_, _<_}

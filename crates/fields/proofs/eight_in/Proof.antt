@@ -1,5 +1,5 @@
--- `fields::eight_in` meets its contract: two halves with the little end first, and where big says so the two turned round, each and with the other.
--- Assumes nothing.
+-- `fields::eight_in` meets its contract: two halves with the little end first, and where big says
+-- so the two turned round, each and with the other. Assumes nothing.
 use borrow.Author.Needs.{needs}
 use Prim.Native.Nat.{ℕ, _+_, _%_, _/_, _≤_, _<_}
 use mathlib.Core.Path.{sym, ap, _∙_}

@@ -1,4 +1,5 @@
--- `fields::four_in` meets its contract: its bytes one by one, with the little end first, and turned round where big says so. Assumes nothing.
+-- `fields::four_in` meets its contract: its bytes one by one, with the little end first, and turned
+-- round where big says so. Assumes nothing.
 use borrow.Author.Needs.{needs}
 use mathlib.Core.Path.{_≡_, sym, ap, _∙_}
 use mathlib.Core.Bool.{true, false}

@@ -1,4 +1,5 @@
--- `fields::joined` meets its contract: in either order the sum fits, and is the one that the order asks. Assumes nothing.
+-- `fields::joined` meets its contract: in either order the sum fits, and is the one that the order
+-- asks. Assumes nothing.
 use native.Mathlib.Omega.{arith}
 use Rattle.fields.proofs.Numbers.{halves-fit}
 use Rattle.fields.proofs.joined.Statement.{statement}

@@ -1,5 +1,5 @@
--- `fields::number_at` meets its contract: its two tests are together that the field is wholly there, and then `value_in` reads it.
--- Assumes nothing.
+-- `fields::number_at` meets its contract: its two tests are together that the field is wholly
+-- there, and then `value_in` reads it. Assumes nothing.
 use borrow.Author.Needs.{needs}
 use Prim.Native.Nat.{_+_}
 use mathlib.Core.Path.{ap}

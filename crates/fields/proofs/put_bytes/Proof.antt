@@ -1,5 +1,5 @@
--- `fields::put_bytes` meets its contract. The invariant: what is left to do from here gives what the contract says (`rest`). The measure is what is left.
--- Assumes nothing.
+-- `fields::put_bytes` meets its contract. The invariant: what is left to do from here gives what
+-- the contract says (`rest`). The measure is what is left. Assumes nothing.
 use mathlib.Core.Path.{_≡_, refl, sym, ap, _∙_}
 use mathlib.Core.Logic.{⊎-elim}
 use mathlib.Core.List.{_++_}

@@ -1,4 +1,5 @@
--- `fields::put_number` meets its contract: `put_bytes` writes as many bytes as the width has. Assumes nothing.
+-- `fields::put_number` meets its contract: `put_bytes` writes as many bytes as the width has.
+-- Assumes nothing.
 use borrow.Author.Needs.{needs}
 use Rattle.fields.proofs.put_number.Statement.{statement}
 use Rattle.fields.proofs.put_number.Tie as tie

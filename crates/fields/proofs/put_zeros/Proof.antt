@@ -1,5 +1,5 @@
--- `fields::put_zeros` meets its contract. The invariant: i zeros stand in front, and the others are as they were.
--- Assumes nothing.
+-- `fields::put_zeros` meets its contract. The invariant: i zeros stand in front, and the others are
+-- as they were. Assumes nothing.
 use mathlib.Core.Path.{_≡_, refl, sym}
 use mathlib.Core.List.{_++_}
 use Prim.Native.Nat.{ℕ, _-_, _≤_}

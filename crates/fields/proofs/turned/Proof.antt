@@ -1,4 +1,5 @@
--- `fields::turned` meets its contract: the bytes of the number, the last one first. Assumes nothing.
+-- `fields::turned` meets its contract: the bytes of the number, the last one first. Assumes
+-- nothing.
 use borrow.Author.Needs.{needs}
 use Rattle.fields.specs.Bytes.{little, bytesOf}
 use Rattle.fields.proofs.turned.Statement.{statement}

@@ -1,4 +1,5 @@
--- `fields::value_in` meets its contract: one byte, two halves of one, four bytes or eight. Assumes nothing.
+-- `fields::value_in` meets its contract: one byte, two halves of one, four bytes or eight. Assumes
+-- nothing.
 use borrow.Author.Needs.{needs}
 use Prim.Native.Nat.{_+_, _≤_}
 use mathlib.Core.Path.{sym, ap}

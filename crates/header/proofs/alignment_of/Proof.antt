@@ -1,4 +1,5 @@
--- `header::alignment_of` meets its contract: a scalar gives its integer where that is usable, and any other value 32. Assumes nothing.
+-- `header::alignment_of` meets its contract: a scalar gives its integer where that is usable, and
+-- any other value 32. Assumes nothing.
 use borrow.Author.Needs.{needs}
 use Rattle.header.proofs.alignment_of.Statement.{statement}
 use Rattle.header.proofs.alignment_of.Tie as tie

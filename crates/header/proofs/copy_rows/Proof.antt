@@ -1,4 +1,5 @@
--- `header::copy_rows` meets its contract. The invariant: the first i rows are copied, and the others as they were. Assumes nothing.
+-- `header::copy_rows` meets its contract. The invariant: the first i rows are copied, and the
+-- others as they were. Assumes nothing.
 use Prim.Native.Nat.{_-_, _≤_}
 use mathlib.Core.Path.{_≡_, refl}
 use mathlib.Core.List.{[], _++_}

@@ -1,4 +1,5 @@
--- `header::fill_entries` meets its contract: a copy of the rows that were kept, or all of them read once more. Assumes nothing.
+-- `header::fill_entries` meets its contract: a copy of the rows that were kept, or all of them read
+-- once more. Assumes nothing.
 use borrow.Author.Needs.{needs}
 use mathlib.Core.Path.{_∙_}
 use native.Mathlib.Omega.{arith}

@@ -1,5 +1,5 @@
--- `header::fill_tensors` meets its contract. The invariant: the rows before i are written, and the tensors that are left, all there after some total, give the rest.
--- Assumes nothing.
+-- `header::fill_tensors` meets its contract. The invariant: the rows before i are written, and the
+-- tensors that are left, all there after some total, give the rest. Assumes nothing.
 use Prim.Native.Nat.{ℕ, _+_, _-_, _≤_}
 use mathlib.Core.Logic.{⊎-elim}
 use mathlib.Core.Path.{_≡_, refl, sym, _∙_}

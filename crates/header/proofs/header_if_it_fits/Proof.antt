@@ -1,4 +1,5 @@
--- `header::header_if_it_fits` meets its contract: `layout::pad` answers where the data starts, or that this does not fit. Assumes nothing.
+-- `header::header_if_it_fits` meets its contract: `layout::pad` answers where the data starts, or
+-- that this does not fit. Assumes nothing.
 use borrow.Author.Needs.{needs}
 use mathlib.Core.Path.{sym, _∙_}
 use lib.Dec.{leb}

@@ -1,5 +1,6 @@
--- `header::list_entries` meets its contract. The invariant: the entries that are left give what all of them do; and where all are there, the rows before
--- i are written, and those that are left give the rest. Assumes nothing.
+-- `header::list_entries` meets its contract. The invariant: the entries that are left give what all
+-- of them do; and where all are there, the rows before i are written, and those that are left give
+-- the rest. Assumes nothing.
 use borrow.Author.Needs.{needs}
 use Prim.Native.Nat.{ℕ, _-_, _≤_}
 use mathlib.Core.Path.{_≡_, refl, sym, ap, _∙_}

@@ -1,5 +1,5 @@
--- `header::measure` meets its contract: the stages are those of the whole run, whose refusals it hands on, and where all is there it tells the
--- header. Assumes nothing.
+-- `header::measure` meets its contract: the stages are those of the whole run, whose refusals it
+-- hands on, and where all is there it tells the header. Assumes nothing.
 use borrow.Author.Needs.{needs}
 use mathlib.Core.Path.{refl, sym, ap, _∙_}
 use denote.Ref.{now}

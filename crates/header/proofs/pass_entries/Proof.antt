@@ -1,5 +1,5 @@
--- `header::pass_entries` meets its contract. The invariant: from here and with this alignment, the entries that are left give what all of them do.
--- Assumes nothing.
+-- `header::pass_entries` meets its contract. The invariant: from here and with this alignment, the
+-- entries that are left give what all of them do. Assumes nothing.
 use borrow.Author.Needs.{needs}
 use Prim.Native.Nat.{_-_, _≤_}
 use mathlib.Core.Path.{_≡_, sym, ap, _∙_}

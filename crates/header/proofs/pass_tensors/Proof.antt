@@ -1,5 +1,5 @@
--- `header::pass_tensors` meets its contract. The invariant: from here and with this total, the tensors that are left give what all of them do.
--- Assumes nothing.
+-- `header::pass_tensors` meets its contract. The invariant: from here and with this total, the
+-- tensors that are left give what all of them do. Assumes nothing.
 use borrow.Author.Needs.{needs}
 use Prim.Native.Nat.{_-_, _≤_}
 use mathlib.Core.Path.{_≡_, sym, ap, _∙_}

@@ -1,4 +1,5 @@
--- `header::read` meets its contract: each stage that refuses ends the run, and past the last one both tables are filled. Assumes nothing.
+-- `header::read` meets its contract: each stage that refuses ends the run, and past the last one
+-- both tables are filled. Assumes nothing.
 use mathlib.Core.Path.{refl, sym, ap, _∙_}
 use borrow.Author.Needs.{needs}
 use denote.Ref.{now}

@@ -1,4 +1,5 @@
--- `header::test_entries` meets its contract: with room for all, the rows were listed; with less, there is nothing to keep. Assumes nothing.
+-- `header::test_entries` meets its contract: with room for all, the rows were listed; with less,
+-- there is nothing to keep. Assumes nothing.
 use borrow.Author.Needs.{needs}
 use native.Mathlib.Omega.{arith}
 use denote.Ref.{now}

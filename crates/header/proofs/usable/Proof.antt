@@ -1,6 +1,6 @@
--- `header::usable` meets its contract: a number is tested as the definition does, and none means 32. Assumes nothing.
+-- `header::usable` meets its contract: a number is tested as the definition does, and none means
+-- 32. Assumes nothing.
 use borrow.Author.Needs.{needs}
-use mathlib.Core.Path.{sym, _∙_}
 use Rattle.header.proofs.usable.Statement.{statement}
 use Rattle.header.proofs.usable.Tie as tie
 

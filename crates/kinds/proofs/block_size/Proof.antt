@@ -1,5 +1,5 @@
--- `kinds::block_size` meets its contract: each range's blocks are the table's, and past the table there is none.
--- Assumes nothing.
+-- `kinds::block_size` meets its contract: each range's blocks are the table's, and past the table
+-- there is none. Assumes nothing.
 use mathlib.Core.Path.{ap}
 use native.Mathlib.Omega.{arith}
 use Rattle.kinds.specs.Table.{blockOf}

@@ -1,7 +1,6 @@
 -- `kinds::bytes_in` meets its contract: the definition divides by 0 to 0 as well.
 -- Assumes nothing.
 use borrow.Author.Needs.{needs}
-use Prim.Native.Nat.{_*_}
 use mathlib.Core.Path.{sym}
 use native.Mathlib.Nat.{div-zero}
 use Rattle.kinds.proofs.bytes_in.Statement.{statement}

@@ -1,5 +1,5 @@
--- `kinds::fits` meets its contract: few numbers fit in blocks of any kind, and of many the product is tested.
--- Assumes nothing.
+-- `kinds::fits` meets its contract: few numbers fit in blocks of any kind, and of many the product
+-- is tested. Assumes nothing.
 use borrow.Author.Needs.{needs}
 use borrow.Author.Tests.{le-leb}
 use mathlib.Core.Path.{sym, _∙_}

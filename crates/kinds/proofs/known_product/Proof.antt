@@ -1,4 +1,5 @@
--- `kinds::known_product` meets its contract: each product on the way was tested, so none wraps. Assumes nothing.
+-- `kinds::known_product` meets its contract: each product on the way was tested, so none wraps.
+-- Assumes nothing.
 use borrow.Author.Needs.{needs}
 use native.Mathlib.Omega.{arith}
 use Rattle.kinds.proofs.KnownProducts.{Products, products}

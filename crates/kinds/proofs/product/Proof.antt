@@ -1,5 +1,5 @@
--- `kinds::product` meets its contract: the first length is the first product, and each call answers of the next.
--- Assumes nothing.
+-- `kinds::product` meets its contract: the first length is the first product, and each call answers
+-- of the next. Assumes nothing.
 use Prim.Native.Nat.{_*_}
 use mathlib.Core.Path.{_≡_, sym, _∙_}
 use lib.ListN.{getD}

@@ -1,5 +1,5 @@
--- `kinds::size` meets its contract: the kind, the product and the bytes are tested in the order of the definition.
--- Assumes nothing.
+-- `kinds::size` meets its contract: the kind, the product and the bytes are tested in the order of
+-- the definition. Assumes nothing.
 use borrow.Author.Needs.{needs}
 use mathlib.Core.Path.{sym, _∙_}
 use Rattle.kinds.proofs.Measures.{Passed, no-kind, no-product, no-size, bytes-fit, sized}

@@ -1,5 +1,5 @@
--- `kinds::times` meets its contract: by 0 or 1 no product is too great, and by more it is so where one factor is greater than the quotient by the other.
--- Assumes nothing.
+-- `kinds::times` meets its contract: by 0 or 1 no product is too great, and by more it is so where
+-- one factor is greater than the quotient by the other. Assumes nothing.
 use borrow.Author.Needs.{needs}
 use Prim.Native.Nat.{_*_, _≤_}
 use native.Mathlib.Omega.{arith}

@@ -1,5 +1,5 @@
--- `kinds::type_size` meets its contract: the blocks of each arm's kinds take its bytes, and those of the rest take none.
--- Assumes nothing.
+-- `kinds::type_size` meets its contract: the blocks of each arm's kinds take its bytes, and those
+-- of the rest take none. Assumes nothing.
 use Prim.Native.Nat.{ℕ}
 use mathlib.Core.List.{List, [], _∷_}
 use Rattle.kinds.specs.Table.{blockOf}

@@ -1,4 +1,5 @@
--- `layout::pad` meets its contract: a multiple is its own, and any other number goes up by what it is short of the next. Assumes nothing.
+-- `layout::pad` meets its contract: a multiple is its own, and any other number goes up by what it
+-- is short of the next. Assumes nothing.
 use borrow.Author.Needs.{needs}
 use borrow.Author.Tests.{le-leb, lt-leb}
 use Prim.Native.Nat.{_+_, _-_, _≤_, _<_, _%_}

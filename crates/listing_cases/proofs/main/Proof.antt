@@ -1,4 +1,5 @@
--- `listing_cases::main` is safe and ends: each turn has an argument fewer before it. Assumes nothing.
+-- `listing_cases::main` is safe and ends: each turn has an argument fewer before it. Assumes
+-- nothing.
 use borrow.Author.Needs.{needs}
 use Prim.Native.Nat.{_-_}
 use native.Mathlib.Omega.{arith}

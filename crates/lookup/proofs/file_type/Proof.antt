@@ -1,4 +1,5 @@
--- `lookup::file_type` meets its contract: it is what `file_type_in` tells of the lookup of its key. Assumes nothing.
+-- `lookup::file_type` meets its contract: it is what `file_type_in` tells of the lookup of its key.
+-- Assumes nothing.
 use borrow.Author.Needs.{needs}
 use Rattle.lookup.proofs.file_type.Statement.{statement}
 use Rattle.lookup.proofs.file_type.Tie as tie

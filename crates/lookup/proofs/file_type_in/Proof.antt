@@ -1,5 +1,5 @@
--- `lookup::file_type_in` meets its contract: each arm tells what its variant holds, and a scalar what its number says.
--- Assumes nothing.
+-- `lookup::file_type_in` meets its contract: each arm tells what its variant holds, and a scalar
+-- what its number says. Assumes nothing.
 use borrow.Author.Needs.{needs}
 use Rattle.lookup.proofs.file_type_in.Statement.{statement}
 use Rattle.lookup.proofs.file_type_in.Tie as tie

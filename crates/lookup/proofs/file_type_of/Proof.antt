@@ -1,4 +1,5 @@
--- `lookup::file_type_of` meets its contract: the one test of a number is the definition's. Assumes nothing.
+-- `lookup::file_type_of` meets its contract: the one test of a number is the definition's. Assumes
+-- nothing.
 use borrow.Author.Needs.{needs}
 use borrow.Author.Tests.{le-leb, lt-leb}
 use Rattle.lookup.proofs.file_type_of.Statement.{statement}

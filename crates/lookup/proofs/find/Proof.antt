@@ -1,5 +1,5 @@
--- `lookup::find` meets its contract: a header's refusal is handed on, and where all is there the last entry of the key is found in its entries, which
--- are read again. Assumes nothing.
+-- `lookup::find` meets its contract: a header's refusal is handed on, and where all is there the
+-- last entry of the key is found in its entries, which are read again. Assumes nothing.
 use borrow.Author.Needs.{needs}
 use mathlib.Core.Path.{_≡_, refl, sym, ap, _∙_}
 use denote.Ref.{now}

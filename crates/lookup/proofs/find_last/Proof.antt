@@ -1,5 +1,5 @@
--- `lookup::find_last` meets its contract. The invariant: what is found so far, with the entries that are left, gives what all of them give.
--- Assumes nothing.
+-- `lookup::find_last` meets its contract. The invariant: what is found so far, with the entries
+-- that are left, gives what all of them give. Assumes nothing.
 use borrow.Author.Needs.{needs}
 use Prim.Native.Nat.{_-_, _≤_}
 use mathlib.Core.Path.{_≡_, sym, ap, _∙_}

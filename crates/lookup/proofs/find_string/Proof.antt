@@ -1,4 +1,5 @@
--- `lookup::find_string` meets its contract: the string and what it means are told of one lookup. Assumes nothing.
+-- `lookup::find_string` meets its contract: the string and what it means are told of one lookup.
+-- Assumes nothing.
 use borrow.Author.Needs.{needs}
 use Rattle.lookup.proofs.find_string.Statement.{statement}
 use Rattle.lookup.proofs.find_string.Tie as tie

@@ -1,5 +1,5 @@
--- `lookup::is_key` meets its contract: a text of another length is another key, and one of the same length is the key where it begins with it.
--- Assumes nothing.
+-- `lookup::is_key` meets its contract: a text of another length is another key, and one of the same
+-- length is the key where it begins with it. Assumes nothing.
 use borrow.Author.Needs.{needs}
 use Prim.Native.Nat.{suc}
 use mathlib.Core.Path.{sym, _∙_}

@@ -1,4 +1,5 @@
--- `lookup::string_of` meets its contract: a text is the part that `inside` hands back, and all else the empty front. Assumes nothing.
+-- `lookup::string_of` meets its contract: a text is the part that `inside` hands back, and all else
+-- the empty front. Assumes nothing.
 use borrow.Author.Needs.{needs}
 use Rattle.lookup.proofs.string_of.Statement.{statement}
 use Rattle.lookup.proofs.string_of.Tie as tie

@@ -1,4 +1,5 @@
--- `lookup::string_status` meets its contract: each arm gives the two words of its variant. Assumes nothing.
+-- `lookup::string_status` meets its contract: each arm gives the two words of its variant. Assumes
+-- nothing.
 use borrow.Author.Needs.{needs}
 use Rattle.lookup.proofs.string_status.Statement.{statement}
 use Rattle.lookup.proofs.string_status.Tie as tie

@@ -1,5 +1,5 @@
--- `plan::array_room` meets its contract: items keep their bytes, but for the sizes of texts, so that places and a count tell how long they are.
--- Assumes nothing.
+-- `plan::array_room` meets its contract: items keep their bytes, but for the sizes of texts, so
+-- that places and a count tell how long they are. Assumes nothing.
 use borrow.Author.Needs.{needs}
 use Prim.Native.Nat.{_-_, _*_, _≤_}
 use mathlib.Core.Path.{_≡_, sym, ap, _∙_}

@@ -1,4 +1,5 @@
--- `plan::counts_fit` meets its contract: in version 1 the greatest count of entries leaves room for the one that is added. Assumes nothing.
+-- `plan::counts_fit` meets its contract: in version 1 the greatest count of entries leaves room for
+-- the one that is added. Assumes nothing.
 use Prim.Native.Nat.{_+_}
 use mathlib.Core.Path.{_≡_}
 use mathlib.Core.Logic.{⊎-elim}

@@ -1,4 +1,5 @@
--- `plan::entries_room` meets its contract. The invariant: what is left, without the entries that are left, is what all of them leave. Assumes nothing.
+-- `plan::entries_room` meets its contract. The invariant: what is left, without the entries that
+-- are left, is what all of them leave. Assumes nothing.
 use Prim.Native.Nat.{_-_, _≤_}
 use mathlib.Core.Path.{_≡_, sym, ap, _∙_}
 use mathlib.Core.Bool.{true}

@@ -1,4 +1,5 @@
--- `plan::entry_room` meets its contract: a size and a type, the key, and then the value are taken. Assumes nothing.
+-- `plan::entry_room` meets its contract: a size and a type, the key, and then the value are taken.
+-- Assumes nothing.
 use borrow.Author.Needs.{needs}
 use native.Mathlib.Omega.{arith}
 use Rattle.plan.proofs.Rooms.{taken-thrice}

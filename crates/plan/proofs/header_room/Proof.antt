@@ -1,4 +1,5 @@
--- `plan::header_room` meets its contract: what stands before the records, the added entry with it, then the entries, then the tensors are taken. Assumes nothing.
+-- `plan::header_room` meets its contract: what stands before the records, the added entry with it,
+-- then the entries, then the tensors are taken. Assumes nothing.
 use borrow.Author.Needs.{needs}
 use Prim.Native.Nat.{_+_, _≤_}
 use mathlib.Core.Path.{_≡_}

@@ -1,4 +1,5 @@
--- `plan::lay_tensors` meets its contract. The invariant: the tensors that are left, after what is laid, give what all of them do. Assumes nothing.
+-- `plan::lay_tensors` meets its contract. The invariant: the tensors that are left, after what is
+-- laid, give what all of them do. Assumes nothing.
 use borrow.Author.Needs.{needs}
 use Prim.Native.Nat.{_-_, _≤_}
 use mathlib.Core.Path.{_≡_, sym, _∙_}

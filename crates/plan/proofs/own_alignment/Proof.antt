@@ -1,4 +1,5 @@
--- `plan::own_alignment` meets its contract. The invariant: what is said so far, with the entries that are left, is what all of them say. Assumes nothing.
+-- `plan::own_alignment` meets its contract. The invariant: what is said so far, with the entries
+-- that are left, is what all of them say. Assumes nothing.
 use borrow.Author.Needs.{needs}
 use Prim.Native.Nat.{_-_, _≤_}
 use mathlib.Core.Path.{_≡_, sym, ap, _∙_}

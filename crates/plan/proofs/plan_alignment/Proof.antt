@@ -1,4 +1,5 @@
--- `plan::plan_alignment` meets its contract: what the sheet says of the alignment is what its entries say. Assumes nothing.
+-- `plan::plan_alignment` meets its contract: what the sheet says of the alignment is what its
+-- entries say. Assumes nothing.
 use borrow.Author.Needs.{needs}
 use mathlib.Core.Path.{_≡_, sym, ap, _∙_}
 use mathlib.Core.Bool.{true}

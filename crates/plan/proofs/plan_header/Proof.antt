@@ -1,4 +1,5 @@
--- `plan::plan_header` meets its contract: the version is tested first, then the sheet, and then the tests that need its records. Assumes nothing.
+-- `plan::plan_header` meets its contract: the version is tested first, then the sheet, and then the
+-- tests that need its records. Assumes nothing.
 use borrow.Author.Needs.{needs}
 use mathlib.Core.Path.{sym, _∙_}
 use denote.Ref.{now}

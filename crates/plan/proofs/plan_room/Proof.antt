@@ -1,4 +1,5 @@
--- `plan::plan_room` meets its contract: what the header leaves tells where it ends, and the padding of that is the start. Assumes nothing.
+-- `plan::plan_room` meets its contract: what the header leaves tells where it ends, and the padding
+-- of that is the start. Assumes nothing.
 use borrow.Author.Needs.{needs}
 use Prim.Native.Nat.{_-_, _<_}
 use mathlib.Core.Path.{_≡_, sym, ap, subst, _∙_}

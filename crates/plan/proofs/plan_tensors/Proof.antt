@@ -1,4 +1,5 @@
--- `plan::plan_tensors` meets its contract: the tensors of the sheet are those that were laid, and the counts are those of the header. Assumes nothing.
+-- `plan::plan_tensors` meets its contract: the tensors of the sheet are those that were laid, and
+-- the counts are those of the header. Assumes nothing.
 use borrow.Author.Needs.{needs}
 use mathlib.Core.Path.{_≡_, sym, ap, _∙_}
 use mathlib.Core.List.{map}

@@ -1,4 +1,5 @@
--- `plan::size_width` meets its contract: a size has 4 bytes in version 1, and else 8. Assumes nothing.
+-- `plan::size_width` meets its contract: a size has 4 bytes in version 1, and else 8. Assumes
+-- nothing.
 use borrow.Author.Tests.{eq-eqb, ne-eqb}
 use Rattle.plan.proofs.size_width.Statement.{statement}
 use Rattle.plan.proofs.size_width.Tie as tie

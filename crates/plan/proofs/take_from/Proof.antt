@@ -1,4 +1,5 @@
--- `plan::take_from` meets its contract: what does not fit leaves nothing, and what does is taken from the rest. Assumes nothing.
+-- `plan::take_from` meets its contract: what does not fit leaves nothing, and what does is taken
+-- from the rest. Assumes nothing.
 use borrow.Author.Needs.{needs}
 use borrow.Author.Tests.{le-leb, lt-leb}
 use Rattle.plan.specs.Steps.{takenFrom}

@@ -1,4 +1,5 @@
--- `plan::tensors_room` meets its contract. The invariant: what is left, without the tensors that are left, is what all of them leave. Assumes nothing.
+-- `plan::tensors_room` meets its contract. The invariant: what is left, without the tensors that
+-- are left, is what all of them leave. Assumes nothing.
 use borrow.Author.Needs.{needs}
 use Prim.Native.Nat.{_-_, _≤_}
 use mathlib.Core.Path.{_≡_, sym, ap, _∙_}

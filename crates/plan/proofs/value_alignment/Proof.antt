@@ -1,4 +1,5 @@
--- `plan::value_alignment` meets its contract: only a scalar can give an alignment, and what was read is its bits. Assumes nothing.
+-- `plan::value_alignment` meets its contract: only a scalar can give an alignment, and what was
+-- read is its bits. Assumes nothing.
 use borrow.Author.Needs.{needs}
 use mathlib.Core.Path.{_≡_, sym, ap, _∙_}
 use Rattle.fields.specs.Value.{widthOf, asNumber}

@@ -1,4 +1,5 @@
--- `plan::value_room` meets its contract: a text has a size before it, a scalar has none, and an array is measured by itself. Assumes nothing.
+-- `plan::value_room` meets its contract: a text has a size before it, a scalar has none, and an
+-- array is measured by itself. Assumes nothing.
 use borrow.Author.Needs.{needs}
 use mathlib.Core.Path.{ap, _∙_}
 use Rattle.sheet.specs.Sheet.{stepOf}

@@ -1,5 +1,5 @@
--- `ranges::check_ranges` meets its contract: at each turn what is left of the rows, counted from i, answers what the whole table does; the measure is how many are left.
--- Assumes nothing.
+-- `ranges::check_ranges` meets its contract: at each turn what is left of the rows, counted from i,
+-- answers what the whole table does; the measure is how many are left. Assumes nothing.
 use Prim.Native.Nat.{_-_, _≤_}
 use mathlib.Core.Path.{_≡_, refl, sym, _∙_}
 use native.Mathlib.Omega.{arith}

@@ -1,5 +1,5 @@
--- `ranges::ends_inside` meets its contract: the three differences say the same of the sum, as whole numbers.
--- Assumes nothing.
+-- `ranges::ends_inside` meets its contract: the three differences say the same of the sum, as whole
+-- numbers. Assumes nothing.
 use Prim.Native.Nat.{_+_, _-_, _<_}
 use mathlib.Core.Path.{sym}
 use native.Mathlib.Omega.{arith}

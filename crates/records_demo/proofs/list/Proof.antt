@@ -1,6 +1,8 @@
--- `records_demo::list` meets its contract: a walk of its MIR, by hand. The array of records is lent to `read_records` as a slice, for a lifetime that is made for the call, and comes
--- back whole (`Slot.antt`); then it is shared out to `get` likewise. The entries and the rows go to `read_records` for good. All that the proof knows of the callees is that they meet their contracts.
--- Assumes nothing.
+-- `records_demo::list` meets its contract: a walk of its MIR, by hand. The array of records is lent
+-- to `read_records` as a slice, for a lifetime that is made for the call, and comes back whole
+-- (`Slot.antt`); then it is shared out to `get` likewise. The entries and the rows go to
+-- `read_records` for good. All that the proof knows of the callees is that they meet their
+-- contracts. Assumes nothing.
 use mathlib.Core.Path.{_≡_, refl, sym, ap, subst, _∙_}
 use Prim.Native.Nat.{ℕ, _<_, _^_}
 use mathlib.Core.List.{[], _∷_, List}
@@ -97,7 +99,8 @@ abbrev stayed : Stays (list.ended .signature .params) (list.ended .kept)
 stayed =
     (stay-none-slice (0 ∷ []) tt (plain (λ _. u8)) yes, (gave-slice (1 ∷ []) tt (ArrayOf (plain (λ _. u64)) (λ _. tt) 7), (gave-slice (2 ∷ []) tt (ArrayOf (plain (λ _. u64)) (λ _. tt) 10), (stay-none (λ _. T.the-row) yes, tt))))
 
--- the last values that `read_records` leaves, and those of the entries, of the rows and of the records among them
+-- the last values that `read_records` leaves, and those of the entries, of the rows and of the
+-- records among them
 abbrev Left : Type 0
 Left = Unit {0} × (Unit {0} × (Unit {0} × (List (List ℕ) × (List (List ℕ) × (List TensorRecord × Unit {0})))))
 

@@ -1,4 +1,5 @@
--- `replay::distinct` is safe and ends: there are no more keys than rows before i, and each turn has a row fewer before it. Assumes nothing.
+-- `replay::distinct` is safe and ends: there are no more keys than rows before i, and each turn has
+-- a row fewer before it. Assumes nothing.
 use Prim.Native.Nat.{_-_, _≤_}
 use native.Mathlib.Omega.{arith}
 use borrow.Author.Needs.{needs}

@@ -1,4 +1,5 @@
--- `replay::replay` is safe and ends: there are no more differences than answers before i, and each turn has an answer fewer before it. Assumes nothing.
+-- `replay::replay` is safe and ends: there are no more differences than answers before i, and each
+-- turn has an answer fewer before it. Assumes nothing.
 use Prim.Native.Nat.{_-_, _≤_}
 use native.Mathlib.Omega.{arith}
 use borrow.Author.Needs.{needs}

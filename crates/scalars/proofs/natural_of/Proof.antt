@@ -1,5 +1,5 @@
--- `scalars::natural_of` meets its contract: an unsigned integer is the same number in 64 bits, a signed one is told by
--- `not_below`, and no other scalar has a number. Assumes nothing.
+-- `scalars::natural_of` meets its contract: an unsigned integer is the same number in 64 bits, a
+-- signed one is told by `not_below`, and no other scalar has a number. Assumes nothing.
 use borrow.Author.Needs.{needs}
 use native.Mathlib.Omega.{arith}
 use mir.Syntax.{w8, w16, w32, w64}

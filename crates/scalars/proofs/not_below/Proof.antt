@@ -1,6 +1,5 @@
--- `scalars::not_below` meets its contract: below 0 there is no number, and one that is not below 0 is the cast's own.
--- Assumes nothing.
-use borrow.Author.Needs.{needs}
+-- `scalars::not_below` meets its contract: below 0 there is no number, and one that is not below 0
+-- is the cast's own. Assumes nothing.
 use mathlib.Core.Bool.{true, false}
 use native.Mathlib.Omega.{arith}
 use mir.Syntax.{w64}

@@ -1,5 +1,5 @@
--- `scalars::read_scalar` meets its contract: it reads the number of the width that `scalar_width` gives, which is some.
--- Assumes nothing.
+-- `scalars::read_scalar` meets its contract: it reads the number of the width that `scalar_width`
+-- gives, which is some. Assumes nothing.
 use borrow.Author.Needs.{needs}
 use mathlib.Core.Path.{sym, ap, _∙_}
 use native.Mathlib.Omega.{arith}

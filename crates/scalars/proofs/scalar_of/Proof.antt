@@ -1,5 +1,5 @@
--- `scalars::scalar_of` meets its contract: each arm makes the variant that the definition makes at that type, and a signed one by its `signed`.
--- Assumes nothing.
+-- `scalars::scalar_of` meets its contract: each arm makes the variant that the definition makes at
+-- that type, and a signed one by its `signed`. Assumes nothing.
 use borrow.Author.Needs.{needs}
 use native.Mathlib.Nat.{mod-eq-of-lt}
 use mir.Syntax.{w8, w16, w32, w64}

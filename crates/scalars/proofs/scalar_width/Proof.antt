@@ -1,5 +1,5 @@
--- `scalars::scalar_width` meets its contract: over each range of types that the code tests the table has one width, or none.
--- Assumes nothing.
+-- `scalars::scalar_width` meets its contract: over each range of types that the code tests the
+-- table has one width, or none. Assumes nothing.
 use mathlib.Core.Path.{_≡_, refl}
 use native.Mathlib.Omega.{arith}
 use Rattle.scalars.specs.Scalars.{scalarWidth}

@@ -1,5 +1,5 @@
--- `scalars::scalar_words` meets its contract: each variant gives its type and its word, and a signed one the bits that its `to_bits` gives.
--- Assumes nothing.
+-- `scalars::scalar_words` meets its contract: each variant gives its type and its word, and a
+-- signed one the bits that its `to_bits` gives. Assumes nothing.
 use borrow.Author.Needs.{needs}
 use mir.Syntax.{w8, w16, w32, w64}
 use Rattle.scalars.proofs.Complement.{stored}

@@ -1,5 +1,5 @@
--- `scalars::signed` meets its contract: below half the bits are the number, and from half on -1 less the rest of them is.
--- Assumes nothing.
+-- `scalars::signed` meets its contract: below half the bits are the number, and from half on -1
+-- less the rest of them is. Assumes nothing.
 use borrow.Author.Needs.{needs}
 use Prim.Native.Nat.{ℕ, _-_, _<_, _^_}
 use mathlib.Core.Path.{_≡_, ap}

@@ -1,5 +1,5 @@
--- `scalars::signed16` meets its contract: what `signed` answers for the low 16 bits fits 16 bits, and so is the same there.
--- Assumes nothing.
+-- `scalars::signed16` meets its contract: what `signed` answers for the low 16 bits fits 16 bits,
+-- and so is the same there. Assumes nothing.
 use borrow.Author.Needs.{needs}
 use native.Mathlib.Omega.{arith}
 use mir.Syntax.{w16}

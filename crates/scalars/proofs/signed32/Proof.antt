@@ -1,5 +1,5 @@
--- `scalars::signed32` meets its contract: what `signed` answers for the low 32 bits fits 32 bits, and so is the same there.
--- Assumes nothing.
+-- `scalars::signed32` meets its contract: what `signed` answers for the low 32 bits fits 32 bits,
+-- and so is the same there. Assumes nothing.
 use borrow.Author.Needs.{needs}
 use native.Mathlib.Omega.{arith}
 use mir.Syntax.{w32}

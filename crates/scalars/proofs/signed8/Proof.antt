@@ -1,5 +1,5 @@
--- `scalars::signed8` meets its contract: what `signed` answers for the low 8 bits fits 8 bits, and so is the same there.
--- Assumes nothing.
+-- `scalars::signed8` meets its contract: what `signed` answers for the low 8 bits fits 8 bits, and
+-- so is the same there. Assumes nothing.
 use borrow.Author.Needs.{needs}
 use native.Mathlib.Omega.{arith}
 use mir.Syntax.{w8}

@@ -1,5 +1,5 @@
--- `scalars::to_bits` meets its contract: below 0 the bits are all ones less -1 - x, and else x itself.
--- Assumes nothing.
+-- `scalars::to_bits` meets its contract: below 0 the bits are all ones less -1 - x, and else x
+-- itself. Assumes nothing.
 use Prim.Native.Nat.{_-_, _^_}
 use mathlib.Core.Path.{_≡_}
 use mathlib.Core.Bool.{true, false}

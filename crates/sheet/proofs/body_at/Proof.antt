@@ -1,4 +1,5 @@
--- `sheet::body_at` meets its contract: a length and a tag; the end is inside where the length is not above what is left. Assumes nothing.
+-- `sheet::body_at` meets its contract: a length and a tag; the end is inside where the length is
+-- not above what is left. Assumes nothing.
 use borrow.Author.Needs.{needs}
 use borrow.Author.Tests.{le-leb, lt-leb, eq-eqb, ne-eqb}
 use Prim.Native.Nat.{_+_, _≤_, _<_}

@@ -1,4 +1,5 @@
--- `sheet::check` meets its contract: the version byte, the metadata entries, and the tensors from where those end. Assumes nothing.
+-- `sheet::check` meets its contract: the version byte, the metadata entries, and the tensors from
+-- where those end. Assumes nothing.
 use borrow.Author.Needs.{needs}
 use borrow.Author.Tests.{eq-eqb, ne-eqb}
 use Prim.Native.Nat.{_≤_}

@@ -1,5 +1,6 @@
--- `sheet::check_entries` meets its contract. The invariant: the entries that are left, with those that were counted, are all; and no more were counted
--- than bytes were passed, so that turns are left where an entry is. Assumes nothing.
+-- `sheet::check_entries` meets its contract. The invariant: the entries that are left, with those
+-- that were counted, are all; and no more were counted than bytes were passed, so that turns are
+-- left where an entry is. Assumes nothing.
 use borrow.Author.Needs.{needs}
 use Prim.Native.Nat.{_+_, _-_, _<_}
 use mathlib.Core.Bool.{true}

@@ -1,5 +1,6 @@
--- `sheet::check_tensors` meets its contract. The invariant: the tensors that are left, with those that were counted, are all; and no more were counted than
--- bytes were passed, so that turns are left where a tensor is. Assumes nothing.
+-- `sheet::check_tensors` meets its contract. The invariant: the tensors that are left, with those
+-- that were counted, are all; and no more were counted than bytes were passed, so that turns are
+-- left where a tensor is. Assumes nothing.
 use borrow.Author.Needs.{needs}
 use borrow.Author.Tests.{lt-ltb, le-ltb}
 use Prim.Native.Nat.{_-_, _≤_, _<_}

@@ -1,4 +1,5 @@
--- `sheet::entry_at` meets its contract: a key, a type and a value in the frame of an entry, used up exactly. Assumes nothing.
+-- `sheet::entry_at` meets its contract: a key, a type and a value in the frame of an entry, used up
+-- exactly. Assumes nothing.
 use borrow.Author.Needs.{needs}
 use borrow.Author.Tests.{eq-eqb, ne-eqb}
 use lib.ListN.{length}

@@ -1,4 +1,5 @@
--- `sheet::entry_body_at` meets its contract: a key, a type and a value, which is passed. Assumes nothing.
+-- `sheet::entry_body_at` meets its contract: a key, a type and a value, which is passed. Assumes
+-- nothing.
 use borrow.Author.Needs.{needs}
 use mathlib.Core.Bool.{true}
 use mathlib.Core.Path.{_≡_, refl, sym, ap, _∙_}

@@ -1,4 +1,5 @@
--- `sheet::is_metadata` meets its contract: past the end of the sheet there is no tag. Assumes nothing.
+-- `sheet::is_metadata` meets its contract: past the end of the sheet there is no tag. Assumes
+-- nothing.
 use borrow.Author.Needs.{needs}
 use Prim.Native.Nat.{_+_, _≤_}
 use lib.ListN.{List·getD-eq-default, length}

@@ -1,4 +1,5 @@
--- `sheet::key_follows` meets its contract: no key comes before the first one, and every other is compared. Assumes nothing.
+-- `sheet::key_follows` meets its contract: no key comes before the first one, and every other is
+-- compared. Assumes nothing.
 use borrow.Author.Needs.{needs}
 use Rattle.sheet.proofs.key_follows.Statement.{statement}
 use Rattle.sheet.proofs.key_follows.Tie as tie

@@ -1,4 +1,5 @@
--- `sheet::next_entry` meets its contract: what stands at the key's place is the key that was read, and that is compared. Assumes nothing.
+-- `sheet::next_entry` meets its contract: what stands at the key's place is the key that was read,
+-- and that is compared. Assumes nothing.
 use borrow.Author.Needs.{needs}
 use mathlib.Core.Path.{_≡_, refl, sym, ap, _∙_}
 use denote.Ref.{now}

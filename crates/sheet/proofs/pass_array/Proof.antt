@@ -1,4 +1,5 @@
--- `sheet::pass_array` meets its contract: the item type and its test, the count, and then every item is passed. Assumes nothing.
+-- `sheet::pass_array` meets its contract: the item type and its test, the count, and then every
+-- item is passed. Assumes nothing.
 use borrow.Author.Needs.{needs}
 use borrow.Author.Tests.{le-leb, lt-leb, eq-eqb, ne-eqb}
 use mathlib.Core.Bool.{true}

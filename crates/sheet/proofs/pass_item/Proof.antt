@@ -1,4 +1,5 @@
--- `sheet::pass_item` meets its contract: a scalar or a text is read and its place kept, and nothing else is an item. Assumes nothing.
+-- `sheet::pass_item` meets its contract: a scalar or a text is read and its place kept, and nothing
+-- else is an item. Assumes nothing.
 use borrow.Author.Needs.{needs}
 use lib.Dec.{ltb}
 use mathlib.Core.Bool.{true}

@@ -1,4 +1,5 @@
--- `sheet::pass_items` meets its contract. The invariant: from here, the items that are left end where all of them do. Assumes nothing.
+-- `sheet::pass_items` meets its contract. The invariant: from here, the items that are left end
+-- where all of them do. Assumes nothing.
 use borrow.Author.Needs.{needs}
 use Prim.Native.Nat.{_-_, _≤_}
 use mathlib.Core.Path.{_≡_, sym, ap, _∙_}

@@ -1,4 +1,5 @@
--- `sheet::pass_value` meets its contract: a scalar, an array, or a text, which is all that is left of the entry. Assumes nothing.
+-- `sheet::pass_value` meets its contract: a scalar, an array, or a text, which is all that is left
+-- of the entry. Assumes nothing.
 use borrow.Author.Needs.{needs}
 use Prim.Native.Nat.{_-_}
 use mathlib.Core.Logic.{⊎-elim}

@@ -1,4 +1,5 @@
--- `sheet::scalar_at` meets its contract: a number of the type's width, and the test of a bool. Assumes nothing.
+-- `sheet::scalar_at` meets its contract: a number of the type's width, and the test of a bool.
+-- Assumes nothing.
 use borrow.Author.Needs.{needs}
 use borrow.Author.Tests.{le-leb, lt-leb, eq-eqb, ne-eqb}
 use mathlib.Core.Path.{refl, sym, ap, _∙_}

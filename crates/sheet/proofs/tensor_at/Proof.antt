@@ -1,4 +1,5 @@
--- `sheet::tensor_at` meets its contract: a name, a kind and a shape in the frame of an entry, used up exactly. Assumes nothing.
+-- `sheet::tensor_at` meets its contract: a name, a kind and a shape in the frame of an entry, used
+-- up exactly. Assumes nothing.
 use borrow.Author.Needs.{needs}
 use borrow.Author.Tests.{eq-eqb, ne-eqb}
 use lib.ListN.{length}

@@ -1,4 +1,5 @@
--- `sheet::text_of` meets its contract: the test of the length, and then the bytes, which are passed. Assumes nothing.
+-- `sheet::text_of` meets its contract: the test of the length, and then the bytes, which are
+-- passed. Assumes nothing.
 use borrow.Author.Needs.{needs}
 use borrow.Author.Tests.{le-leb, lt-leb}
 use Prim.Native.Nat.{_+_, _≤_, _<_}

@@ -1,4 +1,5 @@
--- `start::first_entry` meets its contract: a count has 4 bytes in version 1, and else 8. Assumes nothing.
+-- `start::first_entry` meets its contract: a count has 4 bytes in version 1, and else 8. Assumes
+-- nothing.
 use borrow.Author.Tests.{eq-eqb, ne-eqb}
 use Rattle.start.proofs.first_entry.Statement.{statement}
 use Rattle.start.proofs.first_entry.Tie as tie

@@ -1,4 +1,5 @@
--- `start::read_counts` meets its contract: two sizes, and then each count is compared with its rows. Assumes nothing.
+-- `start::read_counts` meets its contract: two sizes, and then each count is compared with its
+-- rows. Assumes nothing.
 use borrow.Author.Needs.{needs}
 use borrow.Author.Tests.{le-leb, lt-leb}
 use mathlib.Core.Path.{_≡_, refl, sym, ap, _∙_}

@@ -1,4 +1,5 @@
--- `start::read_magic` meets its contract: a number of four bytes, and the definition's three tests in its order. Assumes nothing.
+-- `start::read_magic` meets its contract: a number of four bytes, and the definition's three tests
+-- in its order. Assumes nothing.
 use borrow.Author.Needs.{needs}
 use borrow.Author.Tests.{eq-eqb, ne-eqb}
 use mathlib.Core.Path.{_≡_, refl, sym, ap, _∙_}

@@ -1,5 +1,5 @@
--- `start::read_start` meets its contract: the magic and the counts have no mark, so that ceilings change nothing there, and each step is as its
--- function answers. Assumes nothing.
+-- `start::read_start` meets its contract: the magic and the counts have no mark, so that ceilings
+-- change nothing there, and each step is as its function answers. Assumes nothing.
 use borrow.Author.Needs.{needs}
 use mathlib.Core.Path.{_≡_, refl, sym, ap, _∙_}
 use denote.Ref.{now}

@@ -1,4 +1,5 @@
--- `start::read_version` meets its contract: a number of four bytes, the test of refusal 4, and then the ceiling. Assumes nothing.
+-- `start::read_version` meets its contract: a number of four bytes, the test of refusal 4, and then
+-- the ceiling. Assumes nothing.
 use borrow.Author.Needs.{needs}
 use borrow.Author.Tests.{le-leb, lt-leb, eq-eqb, ne-eqb}
 use mathlib.Core.Path.{_≡_, refl, sym, ap, _∙_}

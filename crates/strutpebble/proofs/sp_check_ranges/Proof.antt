@@ -1,4 +1,5 @@
--- `strutpebble::sp_check_ranges` meets its contract: `ranges::check_ranges`'s answer, told as numbers. Assumes nothing.
+-- `strutpebble::sp_check_ranges` meets its contract: `ranges::check_ranges`'s answer, told as
+-- numbers. Assumes nothing.
 use borrow.Author.Needs.{needs}
 use Rattle.strutpebble.proofs.sp_check_ranges.Statement.{statement}
 use Rattle.strutpebble.proofs.sp_check_ranges.Tie as tie

@@ -1,4 +1,5 @@
--- `strutpebble::sp_file_type` meets its contract: `lookup::file_type`'s answer, told as numbers. Assumes nothing.
+-- `strutpebble::sp_file_type` meets its contract: `lookup::file_type`'s answer, told as numbers.
+-- Assumes nothing.
 use borrow.Author.Needs.{needs}
 use Rattle.strutpebble.proofs.sp_file_type.Statement.{statement}
 use Rattle.strutpebble.proofs.sp_file_type.Tie as tie

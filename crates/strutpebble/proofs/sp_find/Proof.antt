@@ -1,4 +1,5 @@
--- `strutpebble::sp_find` meets its contract: `lookup::find`'s answer, told as numbers. Assumes nothing.
+-- `strutpebble::sp_find` meets its contract: `lookup::find`'s answer, told as numbers. Assumes
+-- nothing.
 use borrow.Author.Needs.{needs}
 use Rattle.strutpebble.proofs.sp_find.Statement.{statement}
 use Rattle.strutpebble.proofs.sp_find.Tie as tie

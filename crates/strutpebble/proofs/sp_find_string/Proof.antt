@@ -1,4 +1,5 @@
--- `strutpebble::sp_find_string` meets its contract: `lookup::find`'s answer and what `lookup::string_status` tells of it, told as numbers. Assumes nothing.
+-- `strutpebble::sp_find_string` meets its contract: `lookup::find`'s answer and what
+-- `lookup::string_status` tells of it, told as numbers. Assumes nothing.
 use borrow.Author.Needs.{needs}
 use Rattle.strutpebble.proofs.sp_find_string.Statement.{statement}
 use Rattle.strutpebble.proofs.sp_find_string.Tie as tie

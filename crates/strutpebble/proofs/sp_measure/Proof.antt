@@ -1,4 +1,5 @@
--- `strutpebble::sp_measure` meets its contract: the answer of `strutpebble::measure`, told as numbers. Assumes nothing.
+-- `strutpebble::sp_measure` meets its contract: the answer of `strutpebble::measure`, told as
+-- numbers. Assumes nothing.
 use borrow.Author.Needs.{needs}
 use mathlib.Core.Path.{ap, _∙_}
 use Rattle.words.specs.Words.{numberOf, wordsOf}

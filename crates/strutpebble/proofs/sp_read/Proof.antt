@@ -1,4 +1,5 @@
--- `strutpebble::sp_read` meets its contract: `strutpebble::read`'s answer, told as numbers. Assumes nothing.
+-- `strutpebble::sp_read` meets its contract: `strutpebble::read`'s answer, told as numbers. Assumes
+-- nothing.
 use borrow.Author.Needs.{needs}
 use mathlib.Core.Path.{ap, _∙_}
 use Rattle.words.specs.Words.{numberOf, wordsOf}

@@ -1,4 +1,5 @@
--- `strutpebble::sp_write` meets its contract: `writer::write_header`'s answer, told as numbers. Assumes nothing.
+-- `strutpebble::sp_write` meets its contract: `writer::write_header`'s answer, told as numbers.
+-- Assumes nothing.
 use borrow.Author.Needs.{needs}
 use mathlib.Core.Path.{ap, _∙_}
 use Rattle.words.specs.Words.{writtenNumber, writtenWords}

@@ -1,6 +1,7 @@
--- `tensor_records::fill` meets its contract: a walk of its MIR, by hand. The borrow of the records is opened once, before the loop, and closed once, after it.
--- Between the two the first i records are those of the first i rows, and each turn takes one more struct out of the row of structs and stores to it what `record_at` answers.
--- Assumes nothing.
+-- `tensor_records::fill` meets its contract: a walk of its MIR, by hand. The borrow of the records
+-- is opened once, before the loop, and closed once, after it. Between the two the first i records
+-- are those of the first i rows, and each turn takes one more struct out of the row of structs and
+-- stores to it what `record_at` answers. Assumes nothing.
 use mathlib.Core.Path.{_≡_, refl, sym, ap, subst, _∙_}
 use mathlib.Core.Bool.{Bool, true, false}
 use mathlib.Core.WellFounded.{WellFounded, InvImage·wf}
@@ -212,7 +213,8 @@ module _ {M : Type 1} (𝓤 : URA M) (H : Heap 𝓤) (A : Atoms 𝓤) (W : Given
         qed W ((‵ (flft κ q) ⊛ ‵ (flft κ′ q′) ⊛ ‵ ftrue) ∷ ‵ (owns (MutSlice (named 0) κ T.the-row ∷ ShrSlice (named 1) κ′ Row ∷ usize ∷ []) a at) ∷ []) ∵ enter ! (𝓣 .C) (𝓣 .Λ) code.function (s ∷ s′ ∷ vint w64 n ∷ []) _ $
         alloc1 ! (λ l₀. alloc1 ! (λ l₁. alloc1 ! (λ l₂. alloc1 ! (λ l₃. alloc1 ! (λ l₄. alloc1 ! (λ l₅. alloc1 ! (λ l₆. alloc1 ! (λ l₇. alloc1 ! (λ l₈. alloc1 ! (λ l₉. alloc1 ! (λ l₁₀. alloc1 ! (λ l₁₁. alloc0 ! $ params1 ! $
         pass1 ! (init ! 20 refl (tt, (tt, (record { fits = room .0 }, tt)))) $ pass1 ! (init ! 18 refl (tt, (tt, (record { fits = room′ .0 }, tt)))) $ pass1 ! (init ! 16 refl (tt, record { fits = n-fits })) $ pass0 ! $
-        -- [_11; …; _10; …; _9; …; _8; …; _7; …; _6; …; _5; …; _4; …; _3; …; _2; …; _1; …; room for _0; …; the tokens; what the parameters own]
+        -- [_11; …; _10; …; _9; …; _8; …; _7; …; _6; …; _5; …; _4; …; _3; …; _2; …; _1; …; room for
+        -- _0; …; the tokens; what the parameters own]
         assigns ! (of-opd ! (load ! (from ! (fld ! refl (stop !))) (look-in ! 18 (sub ! 1 refl (whole !))))) (from ! (stop !)) (init ! 10 refl (tt, record { fits = room′ .0 })) $
         assigns ! (of-opd ! (load ! (from ! (fld ! refl (stop !))) (look-in ! 20 (sub ! 1 refl (whole !))))) (from ! (stop !)) (init ! 8 refl (tt, record { fits = room .0 })) $
         -- `least`
@@ -225,9 +227,11 @@ module _ {M : Type 1} (𝓤 : URA M) (H : Heap 𝓤) (A : Atoms 𝓤) (W : Given
         assigns ! (of-opd ! (lit ! tt)) (from ! (stop !)) (init ! 12 refl (tt, record { fits = lit< tt })) $
         -- the borrow is opened
         move ! (25 ∷ []) $ fsplit ! $ fsplit ! $ move ! (1 ∷ []) $ fsplit ! $ move ! (28 ∷ []) $ split ! $ move ! (2 ∷ 3 ∷ 0 ∷ []) $ opens-slice ! tt T.the-row ys b o $
-        -- [the row; the open borrow; obs; auth; the other token; the slice's fact; rows's and n's; _11; …]
+        -- [the row; the open borrow; obs; auth; the other token; the slice's fact; rows's and n's;
+        -- _11; …]
         move ! (4 ∷ []) $ split ! $ move ! (7 ∷ []) $ fsplit ! $ move ! (1 ∷ []) $ fsplit ! $
-        -- [n's; true; rows's; the other token; true; the row; the open borrow; obs; auth; the slice's fact; _11; …]
+        -- [n's; true; rows's; the other token; true; the row; the open borrow; obs; auth; the
+        -- slice's fact; _11; …]
         rewrite ! 5 (λ (l : List TensorRecord). ‵ (row T.the-row fullShare l b o)) (sym (none-filled ys)) refl $
         first ! $ blocks ! $
         keep ! (5 ∷ 2 ∷ 3 ∷ 6 ∷ 7 ∷ 8 ∷ 0 ∷ 10 ∷ 11 ∷ 12 ∷ 13 ∷ 14 ∷ 15 ∷ 16 ∷ 17 ∷ 18 ∷ 19 ∷ 20 ∷ 21 ∷ 22 ∷ 23 ∷ 24 ∷ 25 ∷ 26 ∷ 27 ∷ 28 ∷ 29 ∷ 30 ∷ 31 ∷ 32 ∷ 33 ∷ []) $
@@ -249,7 +253,8 @@ module _ {M : Type 1} (𝓤 : URA M) (H : Heap 𝓤) (A : Atoms 𝓤) (W : Given
         assigns ! (bin ! (load ! (from ! (fld ! refl (stop !))) (look-in ! 28 (sub ! 0 refl (whole !)))) (load ! (from ! (stop !)) (look ! 10 refl)) tt) (from ! (stop !)) (init ! 8 refl (tt, tt)) $
         rewrite ! 8 (λ (p : ℕ). ‵ (fat fullShare tyPtr l₁₁ 0 (vptr b p))) (sym (place-is 80 o (t .i))) refl $ move ! (3 ∷ []) $
         elem-out ! T.the-row (Is T.the-row) (shows 𝓤 H A T.the-row) (LL.vals T.the-type T′.the-laws) (LL.tells T.the-type T′.the-laws) fullShare (zs (t .i)) (t .i) r b o (in-filled (t .i) (ltb-true _ _ holds)) (λ _.
-        -- [records[i]; what it owns; the others; r's; the other token; rows's; the open borrow; obs; auth; n's; _11; …]
+        -- [records[i]; what it owns; the others; r's; the other token; rows's; the open borrow;
+        -- obs; auth; n's; _11; …]
         assigns ! (of-opd ! (load ! (from ! (stop !)) (look ! 14 refl))) (from ! (hop ! (look ! 10 refl) (stop !))) (store-raw ! 0 refl (LL.lawful T.the-type T′.the-laws 𝓤 H A W .typed r _ is .0)) $
         move ! (1 ∷ []) $ drop ! $ move ! (0 ∷ 2 ∷ []) $ elem-put ! T.the-row fullShare (zs (t .i)) (t .i) r (u ∷ []) b o (in-filled (t .i) (ltb-true _ _ holds)) $
         rewrite ! 0 (λ (l : List TensorRecord). ‵ (row T.the-row fullShare l b o)) (ap (set (zs (t .i)) (t .i)) made ∙ next-filled ys rows (t .i) (in-records (t .i) (ltb-true _ _ holds)) (in-rows (t .i) (ltb-true _ _ holds))) refl $
@@ -263,7 +268,8 @@ module _ {M : Type 1} (𝓤 : URA M) (H : Heap 𝓤) (A : Atoms 𝓤) (W : Given
         assigns ! (of-opd ! (load ! (from ! (stop !)) (look ! 21 refl))) (from ! (stop !)) (init ! 29 refl (tt, record { fits = count-fits })) $
         -- the borrow is closed
         move ! (0 ∷ 3 ∷ 4 ∷ 5 ∷ []) $ closes-slice ! tt T.the-row ys (zs (t .i)) (same-length ys (take (t .i) rows)) b o $
-        -- [obs; the borrow; the token; rows's; the other token; n's; _11; …; _10; …; _9; …; _8; …; _7; …; _6; …; _5; …; _4; …; _3; …; _2; …; _1; …; _0; …]
+        -- [obs; the borrow; the token; rows's; the other token; n's; _11; …; _10; …; _9; …; _8; …;
+        -- _7; …; _6; …; _5; …; _4; …; _3; …; _2; …; _1; …; _0; …]
         returns ! (look ! 28 refl) $ forget ! 12 refl $ forget ! 14 refl $ forget ! 16 refl $ forget ! 18 refl $ forget ! 20 refl $ forget ! 22 refl $ forget ! 24 refl $ forget ! 26 refl $ forget ! 28 refl $
         move ! (28 ∷ 29 ∷ []) $ free1 ! $ move ! (26 ∷ 27 ∷ []) $ free1 ! $ move ! (24 ∷ 25 ∷ []) $ free1 ! $ move ! (22 ∷ 23 ∷ []) $ free1 ! $ move ! (20 ∷ 21 ∷ []) $ free1 ! $ move ! (18 ∷ 19 ∷ []) $ free1 ! $ move ! (16 ∷ 17 ∷ []) $ free1 ! $ move ! (14 ∷ 15 ∷ []) $ free1 ! $
         move ! (12 ∷ 13 ∷ []) $ free1 ! $ move ! (10 ∷ 11 ∷ []) $ free1 ! $ move ! (8 ∷ 9 ∷ []) $ free1 ! $ move ! (6 ∷ 7 ∷ []) $ free1 ! $ free0 ! $

@@ -1,7 +1,7 @@
--- `tensor_records::put` meets its contract: a walk of its MIR, by hand. Where there is a record with the number i, it lies i times the struct's size past the
--- pointer: the borrow is opened, that struct is taken out of the row of structs and stored to, and the borrow is closed at the list with the new record in it.
--- Else the slice is handed back as it came.
--- Assumes nothing.
+-- `tensor_records::put` meets its contract: a walk of its MIR, by hand. Where there is a record
+-- with the number i, it lies i times the struct's size past the pointer: the borrow is opened, that
+-- struct is taken out of the row of structs and stored to, and the borrow is closed at the list
+-- with the new record in it. Else the slice is handed back as it came. Assumes nothing.
 use mathlib.Core.Path.{_≡_, refl, sym, ap, subst}
 use mathlib.Core.Bool.{Bool, true, false, not}
 use Prim.Native.Nat.{ℕ, _*_, _<_, _^_}
@@ -92,7 +92,8 @@ module _ {M : Type 1} (𝓤 : URA M) (H : Heap 𝓤) (A : Atoms 𝓤) (W : Given
         qed W ((‵ (flft κ q) ⊛ ‵ ftrue) ∷ ‵ (owns (MutSlice (named 0) κ T.the-row ∷ usize ∷ T.the-row ∷ []) a at) ∷ []) ∵ enter ! C Λ code.function (s ∷ vint w64 i ∷ mach ∷ []) _ $
         alloc1 ! (λ l₀. alloc1 ! (λ l₁. alloc1 ! (λ l₂. alloc1 ! (λ l₃. alloc1 ! (λ l₄. alloc1 ! (λ l₅. alloc1 ! (λ l₆. alloc1 ! (λ l₇. alloc0 ! $ params1 ! $
         pass1 ! (init ! 12 refl (tt, (tt, (record { fits = room .0 }, tt)))) $ pass1 ! (init ! 10 refl (tt, record { fits = gi })) $ pass1 ! (init ! 8 refl (LL.lawful T.the-type T′.the-laws 𝓤 H A W .typed r _ g .0)) $ pass0 ! $
-        -- [_7; …; _6; …; _5; …; _4; …; _3; …; _2; …; _1; …; room for _0; …; the token; what the parameters own]
+        -- [_7; …; _6; …; _5; …; _4; …; _3; …; _2; …; _1; …; room for _0; …; the token; what the
+        -- parameters own]
         assigns ! (of-opd ! (load ! (from ! (fld ! refl (stop !))) (look-in ! 12 (sub ! 1 refl (whole !))))) (from ! (stop !)) (init ! 6 refl (tt, record { fits = room .0 })) $
         assigns ! (bin ! (load ! (from ! (stop !)) (look ! 10 refl)) (load ! (from ! (stop !)) (look ! 6 refl)) tt) (from ! (stop !)) (init ! 4 refl (tt, tt)) $
         first ! $ branches ! (load ! (from ! (stop !)) (look ! 4 refl))
@@ -102,14 +103,16 @@ module _ {M : Type 1} (𝓤 : URA M) (H : Heap 𝓤) (A : Atoms 𝓤) (W : Given
         rewrite ! 0 (λ (p : ℕ). ‵ (fat fullShare tyPtr l₇ 0 (vptr b p))) (sym (place-is 80 o i)) refl $
         move ! (17 ∷ []) $ fsplit ! $ fsplit ! $ move ! (1 ∷ []) $ fsplit ! $ move ! (20 ∷ []) $ split ! $ move ! (2 ∷ 3 ∷ 0 ∷ []) $
         opens-slice ! tt T.the-row ys b o $ elem-out ! T.the-row (Is T.the-row) (shows 𝓤 H A T.the-row) (LL.vals T.the-type T′.the-laws) (LL.tells T.the-type T′.the-laws) fullShare ys i r b o (ltb→lt i (length ys) there) (λ _.
-        -- [records[i]; what it owns; the others; the open borrow; obs; auth; true; the slice's fact; i's and r's; _7; …; _6; …; _5; …; _4; …; _3; …; _2; …; _1; …; room for _0; …]
+        -- [records[i]; what it owns; the others; the open borrow; obs; auth; true; the slice's
+        -- fact; i's and r's; _7; …; _6; …; _5; …; _4; …; _3; …; _2; …; _1; …; room for _0; …]
         assigns ! (of-opd ! (load ! (from ! (stop !)) (look ! 17 refl))) (from ! (hop ! (look ! 9 refl) (stop !))) (store-raw ! 0 refl (LL.lawful T.the-type T′.the-laws 𝓤 H A W .typed r _ g .0)) $
         move ! (1 ∷ []) $ drop ! $ owned ! T.the-row (Is T.the-row) (LL.makes T.the-type T′.the-plain 𝓤 H A) r _ g $ move ! (1 ∷ 0 ∷ []) $ elem-put ! T.the-row fullShare ys i r (mach ∷ []) b o (ltb→lt i (length ys) there) $
         closes-slice ! tt T.the-row ys zs (length-set ys i r) b o $
         assigns ! (of-opd ! (true-lit !)) (from ! (stop !)) (init ! 20 refl (tt, tt)) $
         returns-within ! Post refl (look ! 20 refl) $ forget ! 6 refl $ forget ! 8 refl $ forget ! 10 refl $ forget ! 12 refl $ forget ! 14 refl $ forget ! 16 refl $ forget ! 18 refl $ forget ! 20 refl $
         move ! (20 ∷ 21 ∷ []) $ free1 ! $ move ! (18 ∷ 19 ∷ []) $ free1 ! $ move ! (16 ∷ 17 ∷ []) $ free1 ! $ move ! (14 ∷ 15 ∷ []) $ free1 ! $ move ! (12 ∷ 13 ∷ []) $ free1 ! $ move ! (10 ∷ 11 ∷ []) $ free1 ! $ move ! (8 ∷ 9 ∷ []) $ free1 ! $ move ! (6 ∷ 7 ∷ []) $ free1 ! $ free0 ! $
-        -- [obs; the borrow; the token; true; the slice's fact; i's and r's]: the slice is owned at the new list
+        -- [obs; the borrow; the token; true; the slice's fact; i's and r's]: the slice is owned at
+        -- the new list
         fjoin ! $ pureI ! (at-slice T.the-row (x zs) (s ∷ [])) (tt, (tt, tt)) (ap (λ (m : ℕ). sliceVal (b, o) m ∷ []) (sym (length-set ys i r)), subst (Room T.the-row) (sym (length-set ys i r)) room) $ fjoin ! $
         keep ! (1 ∷ 0 ∷ 4 ∷ []) $ by ! (exits zs true (length-set ys i r) (held (ltb i (length ys)) there zs ys))))
         (λ (none : Holds (not (ltb i (length ys)))). skips ! $ exec ! C Λ _ steps.t-4 (atRet _ Post) $

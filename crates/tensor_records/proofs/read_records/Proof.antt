@@ -1,7 +1,8 @@
--- `tensor_records::read_records` meets its contract: a walk of its MIR, by hand. The rows are lent again to `read_within`, and then shared out to `fill`, each for a
--- lifetime that is made for the call, and come back. The entries go to `read_within` and the records to `fill` for good: what is known of them at exit is what those say.
--- All that the proof knows of the callees is that they meet their contracts. That the filled records are the tensors' is `listed`.
--- Assumes nothing.
+-- `tensor_records::read_records` meets its contract: a walk of its MIR, by hand. The rows are lent
+-- again to `read_within`, and then shared out to `fill`, each for a lifetime that is made for the
+-- call, and come back. The entries go to `read_within` and the records to `fill` for good: what is
+-- known of them at exit is what those say. All that the proof knows of the callees is that they
+-- meet their contracts. That the filled records are the tensors' is `listed`. Assumes nothing.
 use mathlib.Core.Path.{_≡_, refl, sym, ap, subst, _∙_}
 use Prim.Native.Nat.{ℕ, _<_, _^_, min}
 use mathlib.Core.List.{[], _∷_, List}

@@ -1,5 +1,5 @@
--- `tensor_records::read_within` meets its contract: `tensor_records::read` fills the part that it is lent, and so the table (`part-read`).
--- Assumes nothing.
+-- `tensor_records::read_within` meets its contract: `tensor_records::read` fills the part that it
+-- is lent, and so the table (`part-read`). Assumes nothing.
 use borrow.Author.Needs.{needs}
 use mathlib.Core.Path.{_∙_}
 use Prim.Native.Nat.{_-_}

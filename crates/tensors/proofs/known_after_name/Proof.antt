@@ -1,4 +1,5 @@
--- `tensors::known_after_name` meets its contract: the lengths stand behind their count, and the kind and the offset behind them. Assumes nothing.
+-- `tensors::known_after_name` meets its contract: the lengths stand behind their count, and the
+-- kind and the offset behind them. Assumes nothing.
 use mathlib.Core.Path.{refl}
 use native.Mathlib.Omega.{arith}
 use denote.Ref.{now}

@@ -1,4 +1,5 @@
--- `tensors::known_length` meets its contract: a length within the count stands behind those before it, and beyond the count it is 1. Assumes nothing.
+-- `tensors::known_length` meets its contract: a length within the count stands behind those before
+-- it, and beyond the count it is 1. Assumes nothing.
 use borrow.Author.Needs.{needs}
 use borrow.Author.Tests.{lt-ltb, le-ltb}
 use Rattle.tensors.proofs.known_length.Statement.{statement}

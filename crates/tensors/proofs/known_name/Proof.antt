@@ -1,4 +1,5 @@
--- `tensors::known_name` meets its contract: the name stands behind its size, whose width the version decides. Assumes nothing.
+-- `tensors::known_name` meets its contract: the name stands behind its size, whose width the
+-- version decides. Assumes nothing.
 use borrow.Author.Tests.{eq-eqb, ne-eqb}
 use native.Mathlib.Omega.{arith}
 use denote.Ref.{now}

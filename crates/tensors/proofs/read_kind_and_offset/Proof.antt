@@ -1,4 +1,5 @@
--- `tensors::read_kind_and_offset` meets its contract: two numbers, and then the kind is judged, first by the table and then by the ceiling. Assumes nothing.
+-- `tensors::read_kind_and_offset` meets its contract: two numbers, and then the kind is judged,
+-- first by the table and then by the ceiling. Assumes nothing.
 use borrow.Author.Needs.{needs}
 use borrow.Author.Tests.{le-leb, lt-leb}
 use mathlib.Core.Path.{_≡_, refl, sym, ap, _∙_}

@@ -1,4 +1,5 @@
--- `tensors::read_length` meets its contract: within the stated count it is a number of eight bytes, and beyond it nothing is read. Assumes nothing.
+-- `tensors::read_length` meets its contract: within the stated count it is a number of eight bytes,
+-- and beyond it nothing is read. Assumes nothing.
 use borrow.Author.Needs.{needs}
 use borrow.Author.Tests.{lt-ltb, le-ltb}
 use Rattle.reading.specs.Reading.{run}

@@ -1,4 +1,5 @@
--- `tensors::read_lengths` meets its contract: a length for each of the four places. Assumes nothing.
+-- `tensors::read_lengths` meets its contract: a length for each of the four places. Assumes
+-- nothing.
 use borrow.Author.Needs.{needs}
 use mathlib.Core.Path.{refl, sym, ap, _∙_}
 use Rattle.reading.specs.Reading.{run, andThen}

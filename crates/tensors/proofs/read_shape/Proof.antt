@@ -1,4 +1,5 @@
--- `tensors::read_shape` meets its contract: the count, the test of refusal 10, and the lengths. Assumes nothing.
+-- `tensors::read_shape` meets its contract: the count, the test of refusal 10, and the lengths.
+-- Assumes nothing.
 use borrow.Author.Needs.{needs}
 use borrow.Author.Tests.{le-leb, lt-leb}
 use mathlib.Core.Path.{refl, sym, ap, _∙_}

@@ -1,5 +1,5 @@
--- `tensors::read_tensor` meets its contract: the name, the shape, the kind and the offset, and then what must fit.
--- Assumes nothing.
+-- `tensors::read_tensor` meets its contract: the name, the shape, the kind and the offset, and then
+-- what must fit. Assumes nothing.
 use borrow.Author.Needs.{needs}
 use mathlib.Core.Path.{_≡_, refl, sym, ap, _∙_}
 use denote.Ref.{now}

@@ -1,5 +1,5 @@
--- `values::begins_at` meets its contract. Of too few bytes none begin with the word; else the invariant: from the byte i on, the comparison
--- answers what the whole one does. Assumes nothing.
+-- `values::begins_at` meets its contract. Of too few bytes none begin with the word; else the
+-- invariant: from the byte i on, the comparison answers what the whole one does. Assumes nothing.
 use Prim.Native.Nat.{_-_, _≤_}
 use mathlib.Core.Path.{_≡_, sym, _∙_}
 use native.Mathlib.Omega.{arith}

@@ -1,5 +1,5 @@
--- `values::entry_row` meets its contract: the five words of the value follow the key's place and length.
--- Assumes nothing.
+-- `values::entry_row` meets its contract: the five words of the value follow the key's place and
+-- length. Assumes nothing.
 use borrow.Author.Needs.{needs}
 use mathlib.Core.Path.{_≡_, refl}
 use mathlib.Core.List.{[], _∷_}

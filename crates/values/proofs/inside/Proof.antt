@@ -1,4 +1,5 @@
--- `values::inside` meets its contract: the two tests find whether the text ends past the bytes, without a sum that could wrap. Assumes nothing.
+-- `values::inside` meets its contract: the two tests find whether the text ends past the bytes,
+-- without a sum that could wrap. Assumes nothing.
 use borrow.Author.Needs.{needs}
 use Prim.Native.Nat.{_+_, _-_}
 use mathlib.Core.Path.{_≡_}

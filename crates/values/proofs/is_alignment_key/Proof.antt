@@ -1,4 +1,5 @@
--- `values::is_alignment_key` meets its contract: another length is another text, and 17 bytes are all of this one. Assumes nothing.
+-- `values::is_alignment_key` meets its contract: another length is another text, and 17 bytes are
+-- all of this one. Assumes nothing.
 use borrow.Author.Needs.{needs}
 use borrow.Author.Tests.{eq-eqb, ne-eqb}
 use Rattle.values.proofs.is_alignment_key.Statement.{statement}

@@ -1,4 +1,5 @@
--- `values::is_tokenizer_key` meets its contract: a shorter text does not start with it, and of a longer one ten bytes tell. Assumes nothing.
+-- `values::is_tokenizer_key` meets its contract: a shorter text does not start with it, and of a
+-- longer one ten bytes tell. Assumes nothing.
 use borrow.Author.Needs.{needs}
 use mathlib.Core.Path.{sym, _∙_}
 use native.Mathlib.Omega.{arith}

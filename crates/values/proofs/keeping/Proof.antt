@@ -1,5 +1,6 @@
--- `values::keeping` meets its contract: a single value and a text stay as they are, and an array keeps the smaller of the cap and its count where the key tells so, and else its count.
--- Assumes nothing.
+-- `values::keeping` meets its contract: a single value and a text stay as they are, and an array
+-- keeps the smaller of the cap and its count where the key tells so, and else its count. Assumes
+-- nothing.
 use borrow.Author.Needs.{needs}
 use native.Mathlib.Nat.{min-eq-left, min-eq-right, le-of-lt}
 use Rattle.values.proofs.keeping.Statement.{statement}

@@ -1,5 +1,5 @@
--- `values::pass_items` meets its contract: of texts and of scalars the same is kept as of values, and an array is refused where none may stand.
--- Assumes nothing.
+-- `values::pass_items` meets its contract: of texts and of scalars the same is kept as of values,
+-- and an array is refused where none may stand. Assumes nothing.
 use borrow.Author.Needs.{needs}
 use Prim.Native.Nat.{_<_}
 use mathlib.Core.Path.{_≡_, refl, sym, _∙_}

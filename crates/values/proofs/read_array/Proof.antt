@@ -1,4 +1,5 @@
--- `values::read_array` meets its contract: the item type, the count, and then every item is passed. Assumes nothing.
+-- `values::read_array` meets its contract: the item type, the count, and then every item is passed.
+-- Assumes nothing.
 use borrow.Author.Needs.{needs}
 use mathlib.Core.Path.{_≡_, refl, sym, ap, _∙_}
 use mathlib.Core.List.{List}

@@ -1,4 +1,5 @@
--- `values::read_entry` meets its contract: a key, a value, and the count that the key lets the value keep. Assumes nothing.
+-- `values::read_entry` meets its contract: a key, a value, and the count that the key lets the
+-- value keep. Assumes nothing.
 use borrow.Author.Needs.{needs}
 use mathlib.Core.Path.{refl, sym, ap, _∙_}
 use Rattle.reading.specs.Reading.{run, andThen}

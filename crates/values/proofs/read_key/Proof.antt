@@ -1,4 +1,5 @@
--- `values::read_key` meets its contract: a key is a text, and what its first bytes decide. Assumes nothing.
+-- `values::read_key` meets its contract: a key is a text, and what its first bytes decide. Assumes
+-- nothing.
 use borrow.Author.Needs.{needs}
 use mathlib.Core.Path.{_≡_, refl, sym, ap, _∙_}
 use denote.Ref.{now}

@@ -1,4 +1,5 @@
--- `values::read_string` meets its contract: a size, the test of refusal 7, and then the bytes, which are passed. Assumes nothing.
+-- `values::read_string` meets its contract: a size, the test of refusal 7, and then the bytes,
+-- which are passed. Assumes nothing.
 use borrow.Author.Needs.{needs}
 use borrow.Author.Tests.{le-leb, lt-leb}
 use Prim.Native.Nat.{_+_, _≤_, _<_}

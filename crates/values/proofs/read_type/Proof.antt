@@ -1,4 +1,5 @@
--- `values::read_type` meets its contract: a number of four bytes, and the test of refusal 8. Assumes nothing.
+-- `values::read_type` meets its contract: a number of four bytes, and the test of refusal 8.
+-- Assumes nothing.
 use borrow.Author.Needs.{needs}
 use borrow.Author.Tests.{le-leb, lt-leb}
 use mathlib.Core.Path.{refl, sym, ap, _∙_}

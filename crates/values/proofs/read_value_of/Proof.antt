@@ -1,4 +1,5 @@
--- `values::read_value_of` meets its contract: an array, a text or a scalar, by the type. Assumes nothing.
+-- `values::read_value_of` meets its contract: an array, a text or a scalar, by the type. Assumes
+-- nothing.
 use borrow.Author.Needs.{needs}
 use Prim.Native.Nat.{_<_}
 use mathlib.Core.Path.{refl, sym, ap, _∙_}

@@ -1,5 +1,5 @@
--- `values::value_words` meets its contract: a scalar has the two words of `scalar_words` and three zeros, and a text and an array their fields.
--- Assumes nothing.
+-- `values::value_words` meets its contract: a scalar has the two words of `scalar_words` and three
+-- zeros, and a text and an array their fields. Assumes nothing.
 use borrow.Author.Needs.{needs}
 use Rattle.values.proofs.value_words.Statement.{statement}
 use Rattle.values.proofs.value_words.Tie as tie

@@ -1,4 +1,5 @@
--- `strutpebble::entry_words` meets its contract: an entry has the words of its row and a zero, and each other case its word. Assumes nothing.
+-- `strutpebble::entry_words` meets its contract: an entry has the words of its row and a zero, and
+-- each other case its word. Assumes nothing.
 use borrow.Author.Needs.{needs}
 use mathlib.Core.Path.{_≡_, refl}
 use mathlib.Core.List.{[], _∷_, _++_}

@@ -1,4 +1,5 @@
--- `writer::entries_before` meets its contract. The invariant: those passed, with those of the others that come before, are all that do. Assumes nothing.
+-- `writer::entries_before` meets its contract. The invariant: those passed, with those of the
+-- others that come before, are all that do. Assumes nothing.
 use borrow.Author.Needs.{needs}
 use Prim.Native.Nat.{_-_}
 use mathlib.Core.Path.{_≡_, sym, ap, _∙_}

@@ -1,4 +1,5 @@
--- `writer::entry_count` meets its contract: one more where the alignment's entry is added. Assumes nothing.
+-- `writer::entry_count` meets its contract: one more where the alignment's entry is added. Assumes
+-- nothing.
 use borrow.Author.Needs.{needs}
 use Rattle.writer.proofs.entry_count.Statement.{statement}
 use Rattle.writer.proofs.entry_count.Tie as tie

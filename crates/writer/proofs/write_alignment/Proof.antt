@@ -1,4 +1,5 @@
--- `writer::write_alignment` meets its contract: a key, a type and a number, one after the other. Assumes nothing.
+-- `writer::write_alignment` meets its contract: a key, a type and a number, one after the other.
+-- Assumes nothing.
 use Rattle.fields.proofs.Chain.{chain}
 use Rattle.values.specs.Contents.{entryBytes, valueBytes}
 use Rattle.scalars.specs.Scalars.{scalarWidth}

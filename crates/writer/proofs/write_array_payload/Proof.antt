@@ -1,4 +1,5 @@
--- `writer::write_array_payload` meets its contract: the item type, the count and the items, one after the other. Assumes nothing.
+-- `writer::write_array_payload` meets its contract: the item type, the count and the items, one
+-- after the other. Assumes nothing.
 use borrow.Author.Needs.{needs}
 use Prim.Native.Nat.{_+_, _≤_}
 use mathlib.Core.Bool.{true}

@@ -1,4 +1,5 @@
--- `writer::write_entries` meets its contract. The invariant: what is written, and the entries that are left, are all the entries. Assumes nothing.
+-- `writer::write_entries` meets its contract. The invariant: what is written, and the entries that
+-- are left, are all the entries. Assumes nothing.
 use borrow.Author.Needs.{needs}
 use Prim.Native.Nat.{_+_, _-_, _≤_}
 use mathlib.Core.Path.{sym, ap, subst, _∙_}

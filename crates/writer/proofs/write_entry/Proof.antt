@@ -1,4 +1,5 @@
--- `writer::write_entry` meets its contract: the key, the type and the value, one after the other. Assumes nothing.
+-- `writer::write_entry` meets its contract: the key, the type and the value, one after the other.
+-- Assumes nothing.
 use borrow.Author.Needs.{needs}
 use Rattle.fields.proofs.Chain.{chain}
 use Rattle.writer.proofs.write_entry.Statement.{statement}

@@ -1,5 +1,5 @@
--- `writer::write_header` meets its contract: a refusal of the plan leaves the output alone; else the plan's header is written, and zeros up to its
--- data. Assumes nothing.
+-- `writer::write_header` meets its contract: a refusal of the plan leaves the output alone; else
+-- the plan's header is written, and zeros up to its data. Assumes nothing.
 use mathlib.Core.Path.{_≡_, refl, sym, _∙_}
 use native.Mathlib.Omega.{arith}
 use denote.Ref.{now}

@@ -1,4 +1,5 @@
--- `writer::write_item` meets its contract: a scalar or a text is what is there, and is written as such. Assumes nothing.
+-- `writer::write_item` meets its contract: a scalar or a text is what is there, and is written as
+-- such. Assumes nothing.
 use borrow.Author.Needs.{needs}
 use Prim.Native.Nat.{_+_}
 use mathlib.Core.Path.{_≡_, sym, ap, _∙_}

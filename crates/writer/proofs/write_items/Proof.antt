@@ -1,4 +1,5 @@
--- `writer::write_items` meets its contract. The invariant: what is written, and the items that are left, are all the items. Assumes nothing.
+-- `writer::write_items` meets its contract. The invariant: what is written, and the items that are
+-- left, are all the items. Assumes nothing.
 use Prim.Native.Nat.{_+_, _-_, _≤_}
 use mathlib.Core.Path.{sym, ap, subst}
 use native.Mathlib.Omega.{arith}

@@ -1,4 +1,5 @@
--- `writer::write_kind_and_offset` meets its contract: the kind and the offset, one after the other. Assumes nothing.
+-- `writer::write_kind_and_offset` meets its contract: the kind and the offset, one after the other.
+-- Assumes nothing.
 use Rattle.fields.proofs.Chain.{chain}
 use Rattle.tensors.specs.Contents.{kindAndOffsetBytes}
 use borrow.Author.Needs.{needs}

@@ -1,4 +1,5 @@
--- `writer::write_laid_tensor` meets its contract: its name is what stands in the sheet, and the rest is as its parts tell. Assumes nothing.
+-- `writer::write_laid_tensor` meets its contract: its name is what stands in the sheet, and the
+-- rest is as its parts tell. Assumes nothing.
 use borrow.Author.Needs.{needs}
 use Rattle.writer.proofs.write_laid_tensor.Statement.{statement}
 use Rattle.writer.proofs.write_laid_tensor.Tie as tie

@@ -1,4 +1,5 @@
--- `writer::write_length` meets its contract: eight bytes where the place is below the count, and else none. Assumes nothing.
+-- `writer::write_length` meets its contract: eight bytes where the place is below the count, and
+-- else none. Assumes nothing.
 use Rattle.tensors.specs.Contents.{lengthBytes}
 use borrow.Author.Tests.{lt-ltb, le-ltb}
 use mathlib.Core.Path.{refl}

@@ -1,4 +1,5 @@
--- `writer::write_metadata_section` meets its contract: the entries that come before the alignment's own, that one, and the others; or all of them. Assumes nothing.
+-- `writer::write_metadata_section` meets its contract: the entries that come before the alignment's
+-- own, that one, and the others; or all of them. Assumes nothing.
 use borrow.Author.Needs.{needs}
 use Prim.Native.Nat.{ℕ, _+_, _-_, _≤_}
 use mathlib.Core.Path.{sym, ap, _∙_}

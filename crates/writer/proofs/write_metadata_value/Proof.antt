@@ -1,4 +1,5 @@
--- `writer::write_metadata_value` meets its contract: a scalar, an array or a text is what is there, and is written as such. Assumes nothing.
+-- `writer::write_metadata_value` meets its contract: a scalar, an array or a text is what is there,
+-- and is written as such. Assumes nothing.
 use borrow.Author.Needs.{needs}
 use Prim.Native.Nat.{suc, _≤_}
 use mathlib.Core.Path.{_≡_, sym, ap, subst, _∙_}

@@ -1,5 +1,6 @@
--- `writer::write_records` meets its contract: what stands before the records, the entries and the tensors are written one after the other, and the plan
--- tells that there is room for all. Assumes nothing.
+-- `writer::write_records` meets its contract: what stands before the records, the entries and the
+-- tensors are written one after the other, and the plan tells that there is room for all. Assumes
+-- nothing.
 use native.Mathlib.Omega.{arith}
 use Prim.Native.Nat.{_-_}
 use lib.ListN.{length, length-take, length-drop}

@@ -1,4 +1,5 @@
--- `writer::write_scalar` meets its contract: the number that is read is the scalar's, and is written at its width. Assumes nothing.
+-- `writer::write_scalar` meets its contract: the number that is read is the scalar's, and is
+-- written at its width. Assumes nothing.
 use mathlib.Core.Path.{sym, ap, _∙_}
 use denote.Ref.{now}
 use Rattle.fields.specs.Value.{asNumber}

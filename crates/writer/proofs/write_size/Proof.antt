@@ -1,4 +1,5 @@
--- `writer::write_size` meets its contract: four bytes in version 1, and else eight. Assumes nothing.
+-- `writer::write_size` meets its contract: four bytes in version 1, and else eight. Assumes
+-- nothing.
 use Rattle.values.specs.Contents.{sizeBytes}
 use borrow.Author.Tests.{eq-eqb, ne-eqb}
 use borrow.Author.Needs.{needs}

@@ -1,4 +1,5 @@
--- `writer::write_string` meets its contract: the size and the bytes, one after the other. Assumes nothing.
+-- `writer::write_string` meets its contract: the size and the bytes, one after the other. Assumes
+-- nothing.
 use borrow.Author.Needs.{needs}
 use Rattle.fields.proofs.Chain.{chain}
 use Rattle.values.specs.Contents.{textBytes}

@@ -1,4 +1,5 @@
--- `writer::write_tensor_info` meets its contract: the name, the shape, and the kind with the offset, one after the other. Assumes nothing.
+-- `writer::write_tensor_info` meets its contract: the name, the shape, and the kind with the
+-- offset, one after the other. Assumes nothing.
 use Rattle.fields.proofs.Chain.{chain}
 use Rattle.tensors.specs.Contents.{tensorBytes}
 use borrow.Author.Needs.{needs}

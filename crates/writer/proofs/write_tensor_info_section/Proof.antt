@@ -1,5 +1,6 @@
--- `writer::write_tensor_info_section` meets its contract: each turn writes the tensor that stands next in the sheet at the next offset, and a
--- tensor that can't be laid was refused before. Assumes nothing.
+-- `writer::write_tensor_info_section` meets its contract: each turn writes the tensor that stands
+-- next in the sheet at the next offset, and a tensor that can't be laid was refused before. Assumes
+-- nothing.
 use borrow.Author.Needs.{needs}
 use Prim.Native.Nat.{_+_, _-_, _≤_}
 use mathlib.Core.Path.{sym, _∙_}
