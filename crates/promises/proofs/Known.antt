@@ -1,4 +1,5 @@
--- The known numbers, all of one table: the checker computes each from the definitions. Assumes nothing.
+-- The known numbers, all of one table: the checker computes each from the definitions.
+-- Assumes nothing.
 use mathlib.Core.Path.{refl}
 use Rattle.fields.specs.Bytes.{little, bytesOf}
 use Rattle.reading.specs.Back.{bytesOfAll}

@@ -1,18 +1,20 @@
 -- Every refusal of the writer, of the layout and of the range check is one of those listed, at one
--- of its places: test by test, each test refuses so or leaves it to those after it. Assumes nothing.
-use Prim.Native.Nat.{ℕ, zero, suc, _+_, _≤_, _<_}
+-- of its places: each test refuses so, or leaves it to those after it. Assumes nothing.
+use Prim.Native.Nat.{ℕ, zero, suc, _+_, _^_, _≤_, _<_, max}
 use mathlib.Core.Path.{_≡_, refl, sym, subst, _∙_}
 use mathlib.Core.Bool.{Bool, true, false}
 use mathlib.Core.List.{List, [], _∷_, _++_, map}
 use native.Mathlib.Omega.{arith}
-use borrow.Author.Tests.{ltb-true}
+use borrow.Author.Tests.{ltb-true, leb-false}
 use lib.Dec.{leb, eqb}
 use lib.ListN.{length, getD, length-map}
 use Rattle.fields.specs.Bytes.{little, bytesOf}
 use Rattle.fields.specs.Value.{number}
-use Rattle.reading.specs.Back.{bytesOfAll}
+use Rattle.reading.specs.Back.{bytesOfAll, Sure}
 use Rattle.reading.specs.Choice.{if_then_else_, require}
+use Rattle.reading.specs.Each.{each, times}
 use Rattle.reading.specs.Reading.{Reading, Answer, accepted, refused, run, here, andThen, _>>=_}
+use Rattle.reading.proofs.SureLaws.{sure-then, sure-done}
 use Rattle.kinds.specs.Table.{blockOf, writtenKind}
 use Rattle.kinds.specs.Shape.{greatest, productOf, productsFit, sizeFits}
 use Rattle.layout.specs.Padding.{padded}
@@ -34,12 +36,15 @@ use Rattle.ranges.proofs.Meaning.{refused-first}
 use Rattle.sheet.specs.Format.{bytes, textOf, text, scalar, value, opening, framed, entryBody, metadata, shape, tensorBody, tensor}
 use Rattle.sheet.specs.Sheet.{consed, asMany, noKey, next, keyOf, isMetadata, goesOn, entriesFrom, tensorsFrom, Records, sheetOf}
 use Rattle.sheet.proofs.ManyEntries.{tag-inside}
+use Rattle.sheet.proofs.PartsFound.{entry-ends}
+use Rattle.sheet.proofs.WholeSheet.{tensor-on, sheet-entries, sheet-tensors, sheet-ended}
 use Rattle.plan.specs.declared.Planned.{Planned}
 use Rattle.plan.specs.declared.Planned.the-variants.{Fine, Refused}
 use Rattle.plan.specs.declared.LaidOut.{LaidOut}
-use Rattle.plan.specs.Header.{ownAlignment, entriesOf, pieceOf, recordsIn, startOf}
+use Rattle.plan.specs.Header.{ownAlignment, adds, entriesOf, pieceOf, recordsIn, startOf}
 use Rattle.plan.specs.Plan.{requireFormed, requireLaid, canAdd, agrees, laidOf, countsFit, planFor}
 use Rattle.plan.specs.Steps.{aligned}
+use Rattle.plan.proofs.Drafts.{entries-count}
 use Rattle.writer.specs.Output.{writtenOf}
 use Rattle.writer.specs.declared.HeaderWritten.{HeaderWritten}
 use Rattle.writer.specs.declared.HeaderWritten.the-variants.{Refused as NotWritten}
@@ -88,7 +93,8 @@ from-listed a laid e i (p ∷ pieces) fits =
     followed-listed e i (placeOf a laid (p .lengths) (p .kind)) (λ after. layoutFrom a after (suc i) pieces) (omega arith) (place-listed a laid (p .lengths) (p .kind))
     (λ after. from-listed a after e (suc i) pieces (omega arith))
 
--- for any alignment and any tensors: the refusal is 35, 13, 14, 15 or 36, and its place the number of one of them
+-- for any alignment and any tensors: the refusal is 35, 13, 14, 15 or 36, and its place the number
+-- of one of them
 pub layout-refusals-listed : (a : ℕ) (pieces : List Piece) {n i : ℕ} → layoutOf a pieces ≡ refusedAt n i → (layoutRefusal n ≡ true) × (i < length pieces)
 layout-refusals-listed a pieces h = subst (ListedLayout (length pieces)) h (from-listed a nothingLaid (length pieces) 0 pieces (omega arith))
 
@@ -191,13 +197,91 @@ refused-plan bytes tensors (Refused m j) {n} {i} e h =
     let at : j ≡ i = cc in
     rw (← same, ← at) h
 
--- for any version, byte order, alignment, record sheet and output: the refusal is listed, and its place is a tensor's number for 35, 13, 14, 15 and 36, at most the
--- sheet's length for 31, and else 0
+-- for any version, byte order, alignment, record sheet and output: the refusal is listed, and its
+-- place is a tensor's number for 35, 13, 14, 15 and 36, at most the sheet's length for 31, and else 0
 pub writer-refusals-listed : (k : Dialect) (a : ℕ) (s out : List ℕ) {n p : ℕ} → answerFor k a s out ≡ NotWritten n p
     → (writerRefusal n ≡ true) × (p < placesOf (length s) (length (recordsIn (sheetOf s) .tensors)) n)
 writer-refusals-listed k a s out h = refused-plan _ _ (planFor k a (length out) s) h (plan-listed k a (length out) s)
 
--- Each number is given.
+-- Refusal 37.
+
+-- each of what takes some bytes takes one at least
+each-takes : {A : Type 0} (m : Reading A) (s : List ℕ) → ((p : ℕ) → Sure s m p (λ a q. p < q)) → (n p : ℕ) → Sure s (times n m) p (λ l q. p + n ≤ q)
+unfolding each
+each-takes m s one zero p = sure-done (omega arith)
+each-takes m s one (suc n) p = sure-then (one p) (λ a q h. sure-then (each-takes m s one n q) (λ l r g. sure-done (omega arith)))
+
+-- so a sheet has more bytes than records
+records-short : (s : List ℕ) {c : Records} {e : ℕ} → accepted c e ≡ sheetOf s → 1 + length (c .entries) + length (c .tensors) ≤ length s
+records-short s {c} {e} h =
+    let entries : 1 + length (c .entries) ≤ c .first =
+    each-takes metadata s (λ p. record { holds = λ a q r. entry-ends s p r .0 }) (length (c .entries)) 1 .holds (c .entries) (c .first) (sheet-entries s h) in
+    let tensors : c .first + length (c .tensors) ≤ e = each-takes tensor s (tensor-on s) (length (c .tensors)) (c .first) .holds (c .tensors) e (sheet-tensors s h) in
+    let end : e ≡ length s = sheet-ended s h in
+    omega arith
+
+-- a count that does not fit is above 2 ^ 32 - 1
+count-over : (k : Dialect) (n m : ℕ) → countsFit k n m ≡ false → 4294967295 < max n m
+count-over k n m h = by (eqb (k .version) 1) h
+  where
+    by : (b : Bool) → (if b then leb (max n m) 4294967295 else true) ≡ false → 4294967295 < max n m
+    by true e = leb-false (max n m) 4294967295 e
+    by false e = let z : _≡_ {A = ℕ} 0 1 = cc in absurd (omega arith)
+
+one-at-most : (b : Bool) → (if b then 1 else 0) ≤ 1
+one-at-most true = omega arith
+one-at-most false = omega arith
+
+sheet-over : (k : Dialect) (a : ℕ) (s : List ℕ) {c : Records} {e : ℕ} → accepted c e ≡ sheetOf s → countsFit k (length (entriesOf a (c .entries))) (length (c .tensors)) ≡ false → 2 ^ 32 ≤ length s
+sheet-over k a s {c} h over =
+    let short = records-short s h in
+    let big = count-over k (length (entriesOf a (c .entries))) (length (c .tensors)) over in
+    let same = entries-count a (c .entries) in
+    let one = one-at-most (adds a (ownAlignment (c .entries))) in
+    omega arith
+
+-- a plan, or a refusal that is not 37, or many bytes
+abbrev Long : ℕ → Planned → Type 0
+Long bytes (Fine plan) = Unit {0}
+Long bytes (Refused n p) = n ≡ 37 → 2 ^ 32 ≤ bytes
+
+test-long : (bytes : ℕ) (t : Bool) (n p : ℕ) (rest : Planned) → (t ≡ false → n ≡ 37 → 2 ^ 32 ≤ bytes) → Long bytes rest → Long bytes (require t (Refused n p) rest)
+test-long bytes true n p rest h others = others
+test-long bytes false n p rest h others = h refl
+
+laid-long : (bytes tensors : ℕ) (l : Layout) (rest : Planned) → ListedLayout tensors l → Long bytes rest → Long bytes (requireLaid (laidOf l) rest)
+laid-long bytes tensors (laidOut offsets laid) rest h others = others
+laid-long bytes tensors (refusedAt n i) rest h others =
+    λ e. let not-laid : layoutRefusal 37 ≡ true = subst (λ m. layoutRefusal m ≡ true) e (h .0) in let z : _≡_ {A = ℕ} 0 1 = cc in absurd (omega arith)
+
+formed-long : (k : Dialect) (a room : ℕ) (s : List ℕ) (r : Answer Records) → r ≡ sheetOf s → Long (length s) (requireFormed r 31 (aligned k a room))
+formed-long k a room s (refused n p) h = λ e. absurd (omega arith)
+formed-long k a room s (accepted c q) h =
+    let same : 0 + length (map pieceOf (c .tensors)) ≤ length (c .tensors) = omega (arith, length-map (c .tensors) pieceOf) in
+    test-long (length s) (isAlignment a) 32 0 _ (λ t e. absurd (omega arith))
+    (test-long (length s) (canAdd a (ownAlignment (c .entries))) 33 0 _ (λ t e. absurd (omega arith))
+    (test-long (length s) (agrees a (ownAlignment (c .entries))) 34 0 _ (λ t e. absurd (omega arith))
+    (laid-long (length s) (length (c .tensors)) (layoutOf a (map pieceOf (c .tensors))) _ (from-listed a nothingLaid (length (c .tensors)) 0 (map pieceOf (c .tensors)) same)
+    (test-long (length s) (countsFit k (length (entriesOf a (c .entries))) (length (c .tensors))) 37 0 _ (λ t e. sheet-over k a s h t)
+    (test-long (length s) (leb (startOf k a c) room) 38 0 _ (λ t e. absurd (omega arith)) tt)))))
+
+plan-long : (k : Dialect) (a room : ℕ) (s : List ℕ) → Long (length s) (planFor k a room s)
+unfolding planFor
+plan-long k a room s = test-long (length s) (knownVersion (k .version)) 30 0 _ (λ t e. absurd (omega arith)) (formed-long k a room s (sheetOf s) refl)
+
+long-refused : (bytes : ℕ) (p : Planned) {i : ℕ} → writtenOf p ≡ NotWritten 37 i → Long bytes p → 2 ^ 32 ≤ bytes
+long-refused bytes (Fine plan) e h = let z : _≡_ {A = ℕ} 0 1 = cc in absurd (omega arith)
+long-refused bytes (Refused n j) {i} e h =
+    let same : n ≡ 37 = cc in
+    h same
+
+-- for any version, byte order, alignment and output: a record sheet of less than 4 GiB is never refused as 37
+pub never-37 : (k : Dialect) (a : ℕ) (s out : List ℕ) {p : ℕ} → length s < 2 ^ 32 → answerFor k a s out ≡ NotWritten 37 p → ⊥
+never-37 k a s out small h =
+    let long = long-refused (length s) (planFor k a (length out) s) h (plan-long k a (length out) s) in
+    omega arith
+
+-- Each other number is given.
 
 pub given : Given
 unfolding run number here _>>=_ andThen lengthsOf lengthAt blockOf placeOf layoutFrom sheetOf entriesFrom tensorsFrom asMany text textOf bytes opening framed

@@ -1,4 +1,4 @@
--- The known numbers, as one table: files and sheets byte by byte, and what the definitions say of them.
+-- The known numbers, as one table: files and sheets byte by byte, and what the definitions say.
 use Prim.Native.Nat.{ℕ, _-_, _^_}
 use mathlib.Core.Path.{_≡_}
 use mathlib.Core.List.{List, [], _∷_, _++_, map}
@@ -30,7 +30,8 @@ empty3 = 0x47 ∷ 0x47 ∷ 0x55 ∷ 0x46 ∷ 3 ∷ 0 ∷ 0 ∷ 0 ∷ replicate 1
 abbrev pub empty1 : List ℕ
 empty1 = 0x47 ∷ 0x47 ∷ 0x55 ∷ 0x46 ∷ 1 ∷ 0 ∷ 0 ∷ 0 ∷ replicate 8 0
 
--- version 3: a, of kind 0, with 5 numbers, at offset 0; and b, of kind 1, with 3 numbers, at offset 32
+-- version 3: a, of kind 0, with 5 numbers, at offset 0;
+-- and b, of kind 1, with 3 numbers, at offset 32
 abbrev pub tensors3 : List ℕ
 tensors3 =
     0x47 ∷ 0x47 ∷ 0x55 ∷ 0x46 ∷ 3 ∷ 0 ∷ 0 ∷ 0 ∷ 2 ∷ 0 ∷ 0 ∷ 0 ∷ 0 ∷ 0 ∷ 0 ∷ 0 ∷ 0 ∷ 0 ∷ 0 ∷ 0 ∷ 0 ∷ 0 ∷ 0 ∷ 0 ∷
@@ -70,7 +71,8 @@ sheetAB =
 abbrev pub little : ℕ → Dialect
 little v = record { version = v; big = false }
 
--- the header of a file of the version v with no entries and n tensors, that ends at e, with its data at d
+-- the header of a file of the version v with no entries and n tensors, that ends at e, with its
+-- data at d
 abbrev pub plain : ℕ → ℕ → ℕ → ℕ → Header
 plain v n e d = record { version = v; big = false; entries = 0; tensors = n; alignment = 32; end = e; start = d }
 
@@ -113,19 +115,22 @@ pub record Known : Type 0 where
   -- the empty file: 24 bytes and 16, and the data at 32
   pub empty-3 : readerRun full 0 [] [] empty3 ≡ accepted (record { head = plain 3 0 24 32; entries = []; tensors = [] }) 24
   pub empty-1 : readerRun full 0 [] [] empty1 ≡ accepted (record { head = plain 1 0 16 32; entries = []; tensors = [] }) 16
-  -- a and b: sizes 20 and 6, offsets 0 and 32; the header ends at 90 and at 74, and the data is at 96
+  -- a and b: sizes 20 and 6, offsets 0 and 32;
+  -- the header ends at 90 and at 74, and the data is at 96
   pub two-3 : readerRun full 0 [] ([] ∷ [] ∷ []) tensors3 ≡ accepted (record { head = plain 3 2 90 96; entries = []; tensors = flat 32 0 5 0 20 ∷ flat 65 1 3 32 6 ∷ [] }) 90
   pub two-1 : readerRun full 0 [] ([] ∷ [] ∷ []) tensors1 ≡ accepted (record { head = plain 1 2 74 96; entries = []; tensors = flat 20 0 5 0 20 ∷ flat 49 1 3 32 6 ∷ [] }) 74
   pub two-laid : layoutOf 32 (piece 5 0 ∷ piece 3 1 ∷ []) ≡ laidOut (0 ∷ 32 ∷ []) (record { total = 8; next = 64 })
   -- a file of 134 bytes holds them, and one of 133 does not hold tensor 1
   pub file-134 : checkFrom 96 134 0 rowsAB ≡ Inside
   pub file-133 : checkFrom 96 133 0 rowsAB ≡ Outside 20 1
-  -- sizes: kind 2 with 33 numbers; kind 0 with no dimensions, with 2 ^ 62 numbers and with one fewer
+  -- sizes: kind 2 with 33 numbers;
+  -- kind 0 with no dimensions, with 2 ^ 62 numbers and with one fewer
   pub kind-2 : measureOf (33 ∷ 1 ∷ 1 ∷ 1 ∷ []) 2 ≡ Bytes 33 18
   pub no-dimensions : measureOf (1 ∷ 1 ∷ 1 ∷ 1 ∷ []) 0 ≡ Bytes 1 4
   pub too-long : measureOf (2 ^ 62 ∷ 1 ∷ 1 ∷ 1 ∷ []) 0 ≡ Unmeasured 14
   pub just-fits : measureOf ((2 ^ 62 - 1) ∷ 1 ∷ 1 ∷ 1 ∷ []) 0 ≡ Bytes (2 ^ 62 - 1) (2 ^ 64 - 4)
-  -- the same four through the reader, and the row of the one with no dimensions: too many numbers are refused at the tensor's start
+  -- the same four through the reader, which refuses 2 ^ 62 numbers at the tensor's start;
+  -- and the row of the one with no dimensions
   pub kind-2-read : readerRun full 0 [] ([] ∷ []) (alone3 2 (1 ∷ 0 ∷ 0 ∷ 0 ∷ 33 ∷ 0 ∷ 0 ∷ 0 ∷ 0 ∷ 0 ∷ 0 ∷ 0 ∷ [])) ≡ only (flat 32 2 33 0 18) 57
   pub no-dimensions-read : readerRun full 0 [] ([] ∷ []) (alone3 0 (0 ∷ 0 ∷ 0 ∷ 0 ∷ [])) ≡ only scalarA 49
   pub no-dimensions-row : tensorRow scalarA ≡ 32 ∷ 1 ∷ 0 ∷ 0 ∷ 1 ∷ 1 ∷ 1 ∷ 1 ∷ 0 ∷ 4 ∷ []
