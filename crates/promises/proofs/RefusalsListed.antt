@@ -1,11 +1,11 @@
 -- Every refusal of the writer, of the layout and of the range check is one of those listed, at one
 -- of its places: each test refuses so, or leaves it to those after it. Assumes nothing.
 use Prim.Native.Nat.{ℕ, zero, suc, _+_, _^_, _≤_, _<_, max}
-use mathlib.Core.Path.{_≡_, refl, sym, subst, _∙_}
+use mathlib.Core.Path.{_≡_, refl, subst}
 use mathlib.Core.Bool.{Bool, true, false}
 use mathlib.Core.List.{List, [], _∷_, _++_, map}
 use native.Mathlib.Omega.{arith}
-use borrow.Author.Tests.{ltb-true, leb-false}
+use borrow.Author.Tests.{ltb-true, leb-false, eqb-false}
 use lib.Dec.{leb, eqb}
 use lib.ListN.{length, getD, length-map}
 use Rattle.fields.specs.Bytes.{little, bytesOf}
@@ -40,21 +40,19 @@ use Rattle.sheet.proofs.PartsFound.{entry-ends}
 use Rattle.sheet.proofs.WholeSheet.{tensor-on, sheet-entries, sheet-tensors, sheet-ended}
 use Rattle.plan.specs.declared.Planned.{Planned}
 use Rattle.plan.specs.declared.Planned.the-variants.{Fine, Refused}
-use Rattle.plan.specs.declared.LaidOut.{LaidOut}
 use Rattle.plan.specs.Header.{ownAlignment, adds, entriesOf, pieceOf, recordsIn, startOf}
 use Rattle.plan.specs.Plan.{requireFormed, requireLaid, canAdd, agrees, laidOf, countsFit, planFor}
 use Rattle.plan.specs.Steps.{aligned}
 use Rattle.plan.proofs.Drafts.{entries-count}
 use Rattle.writer.specs.Output.{writtenOf}
-use Rattle.writer.specs.declared.HeaderWritten.{HeaderWritten}
 use Rattle.writer.specs.declared.HeaderWritten.the-variants.{Refused as NotWritten}
 use Rattle.promises.specs.Back.{answerFor}
-use Rattle.promises.specs.Refusals.{isOneOf, layoutRefusal, writerRefusal, placesOf, Given}
+use Rattle.promises.specs.Refusals.{isOneOf, layoutRefusal, writerRefusal, placesOf, Listed, Given}
 
--- what holds of a test's refusal and of what follows it holds of both
-by-test : {A : Type 0} (P : A → Type 0) (t : Bool) (refusal rest : A) → P refusal → P rest → P (if t then rest else refusal)
+-- what holds of a test's refusal, where the test fails, and of what follows it holds of both
+by-test : {A : Type 0} (P : A → Type 0) (t : Bool) (refusal rest : A) → (t ≡ false → P refusal) → P rest → P (require t refusal rest)
 by-test P true refusal rest h others = others
-by-test P false refusal rest h others = h
+by-test P false refusal rest h others = h refl
 
 -- The layout.
 
@@ -66,12 +64,12 @@ ListedPlace (NotPlaced n) = layoutRefusal n ≡ true
 place-listed : (a : ℕ) (laid : Laid) (shape : List ℕ) (kind : ℕ) → ListedPlace (placeOf a laid shape kind)
 unfolding placeOf
 place-listed a laid shape kind =
-    by-test ListedPlace (writtenKind kind) _ _ refl
-    (by-test ListedPlace (productsFit shape) _ _ refl
-    (by-test ListedPlace (sizeFits shape kind) _ _ refl
-    (by-test ListedPlace (leb (laid .total + productOf shape) greatest) _ _ refl
-    (by-test ListedPlace (leb (endAfter laid shape kind) greatest) _ _ refl
-    (by-test ListedPlace (leb (padded a (endAfter laid shape kind)) greatest) _ _ refl tt)))))
+    by-test ListedPlace (writtenKind kind) _ _ (λ t. refl)
+    (by-test ListedPlace (productsFit shape) _ _ (λ t. refl)
+    (by-test ListedPlace (sizeFits shape kind) _ _ (λ t. refl)
+    (by-test ListedPlace (leb (laid .total + productOf shape) greatest) _ _ (λ t. refl)
+    (by-test ListedPlace (leb (endAfter laid shape kind) greatest) _ _ (λ t. refl)
+    (by-test ListedPlace (leb (padded a (endAfter laid shape kind)) greatest) _ _ (λ t. refl) tt)))))
 
 -- offsets, or a listed refusal of a tensor below e
 abbrev ListedLayout : ℕ → Layout → Type 0
@@ -135,75 +133,11 @@ many-up-to {A = A} more m f s inside (suc turns) z p = by (more s p) refl (λ a 
 sheet-up-to : (s : List ℕ) → UpTo (length s) (sheetOf s)
 unfolding sheetOf entriesFrom tensorsFrom
 sheet-up-to s =
-    by-test (UpTo (length s)) (eqb (getD s 0 0) 1) _ _ (omega arith)
+    by-test (UpTo (length s)) (eqb (getD s 0 0) 1) _ _ (λ t. omega arith)
     (then-up-to (length s) (entriesFrom s 1) _ (many-up-to isMetadata next keyOf s (tag-inside s) (length s) noKey 1)
     (λ es q. then-up-to (length s) (tensorsFrom s q) _ (many-up-to {S = Unit {0}} goesOn (λ z. tensor) (λ z a. z) s (λ p h. ltb-true _ _ h) (length s) tt q) (λ ts e. tt)))
 
--- The writer.
-
--- a plan, or a listed refusal at one of its places, for a sheet of so many bytes and tensors
-abbrev ListedPlan : ℕ → ℕ → Planned → Type 0
-ListedPlan bytes tensors (Fine plan) = Unit {0}
-ListedPlan bytes tensors (Refused n p) = (writerRefusal n ≡ true) × (p < placesOf bytes tensors n)
-
--- one of a list is one of a longer list
-or-true : (b : Bool) {x : Bool} → x ≡ true → (if b then true else x) ≡ true
-or-true true h = refl
-or-true false h = h
-
-behind : (ms others : List ℕ) (n : ℕ) → isOneOf others n ≡ true → isOneOf (ms ++ others) n ≡ true
-behind [] others n h = h
-behind (m ∷ ms) others n h = or-true (eqb n m) (behind ms others n h)
-
-in-front : (ms others : List ℕ) (n : ℕ) → isOneOf ms n ≡ true → isOneOf (ms ++ others) n ≡ true
-in-front [] others n h = let z : _≡_ {A = ℕ} 0 1 = cc in absurd (omega arith)
-in-front (m ∷ ms) others n h = by (eqb n m) h (in-front ms others n)
-  where
-    by : (b : Bool) → (if b then true else isOneOf ms n) ≡ true → (isOneOf ms n ≡ true → isOneOf (ms ++ others) n ≡ true) → (if b then true else isOneOf (ms ++ others) n) ≡ true
-    by true g rest = refl
-    by false g rest = rest g
-
--- a refusal of the layout is one of the writer
-laid-number : (n : ℕ) → layoutRefusal n ≡ true → writerRefusal n ≡ true
-laid-number n h = behind (30 ∷ 31 ∷ 32 ∷ 33 ∷ 34 ∷ []) (35 ∷ 13 ∷ 14 ∷ 15 ∷ 36 ∷ 37 ∷ 38 ∷ []) n (in-front (35 ∷ 13 ∷ 14 ∷ 15 ∷ 36 ∷ []) (37 ∷ 38 ∷ []) n h)
-
-laid-listed : (bytes tensors : ℕ) (l : Layout) (rest : Planned) → ListedLayout tensors l → ListedPlan bytes tensors rest → ListedPlan bytes tensors (requireLaid (laidOf l) rest)
-laid-listed bytes tensors (laidOut offsets laid) rest h others = others
-laid-listed bytes tensors (refusedAt n i) rest h others = (laid-number n (h .0), rw (h .0) (h .1))
-
--- what follows of a sheet, well formed or not
-formed-listed : (k : Dialect) (a room bytes : ℕ) (r : Answer Records) → UpTo bytes r → ListedPlan bytes (length (recordsIn r .tensors)) (requireFormed r 31 (aligned k a room))
-formed-listed k a room bytes (refused n p) h = (refl, omega arith)
-formed-listed k a room bytes (accepted c e) h =
-    let P : Planned → Type 0 = ListedPlan bytes (length (c .tensors)) in
-    let zero-place : 0 < 1 = omega arith in
-    let same : 0 + length (map pieceOf (c .tensors)) ≤ length (c .tensors) = omega (arith, length-map (c .tensors) pieceOf) in
-    by-test P (isAlignment a) _ _ (refl, zero-place)
-    (by-test P (canAdd a (ownAlignment (c .entries))) _ _ (refl, zero-place)
-    (by-test P (agrees a (ownAlignment (c .entries))) _ _ (refl, zero-place)
-    (laid-listed bytes (length (c .tensors)) (layoutOf a (map pieceOf (c .tensors))) _ (from-listed a nothingLaid (length (c .tensors)) 0 (map pieceOf (c .tensors)) same)
-    (by-test P (countsFit k (length (entriesOf a (c .entries))) (length (c .tensors))) _ _ (refl, zero-place)
-    (by-test P (leb (startOf k a c) room) _ _ (refl, zero-place) tt)))))
-
-plan-listed : (k : Dialect) (a room : ℕ) (s : List ℕ) → ListedPlan (length s) (length (recordsIn (sheetOf s) .tensors)) (planFor k a room s)
-unfolding planFor
-plan-listed k a room s =
-    by-test (ListedPlan (length s) (length (recordsIn (sheetOf s) .tensors))) (knownVersion (k .version)) _ _ (refl, omega arith) (formed-listed k a room (length s) (sheetOf s) (sheet-up-to s))
-
-refused-plan : (bytes tensors : ℕ) (p : Planned) {n i : ℕ} → writtenOf p ≡ NotWritten n i → ListedPlan bytes tensors p → (writerRefusal n ≡ true) × (i < placesOf bytes tensors n)
-refused-plan bytes tensors (Fine plan) e h = let z : _≡_ {A = ℕ} 0 1 = cc in absurd (omega arith)
-refused-plan bytes tensors (Refused m j) {n} {i} e h =
-    let same : m ≡ n = cc in
-    let at : j ≡ i = cc in
-    rw (← same, ← at) h
-
--- for any version, byte order, alignment, record sheet and output: the refusal is listed, and its
--- place is a tensor's number for 35, 13, 14, 15 and 36, at most the sheet's length for 31, and else 0
-pub writer-refusals-listed : (k : Dialect) (a : ℕ) (s out : List ℕ) {n p : ℕ} → answerFor k a s out ≡ NotWritten n p
-    → (writerRefusal n ≡ true) × (p < placesOf (length s) (length (recordsIn (sheetOf s) .tensors)) n)
-writer-refusals-listed k a s out h = refused-plan _ _ (planFor k a (length out) s) h (plan-listed k a (length out) s)
-
--- Refusal 37.
+-- How many bytes a sheet has.
 
 -- each of what takes some bytes takes one at least
 each-takes : {A : Type 0} (m : Reading A) (s : List ℕ) → ((p : ℕ) → Sure s m p (λ a q. p < q)) → (n p : ℕ) → Sure s (times n m) p (λ l q. p + n ≤ q)
@@ -240,46 +174,78 @@ sheet-over k a s {c} h over =
     let one = one-at-most (adds a (ownAlignment (c .entries))) in
     omega arith
 
--- a plan, or a refusal that is not 37, or many bytes
-abbrev Long : ℕ → Planned → Type 0
-Long bytes (Fine plan) = Unit {0}
-Long bytes (Refused n p) = n ≡ 37 → 2 ^ 32 ≤ bytes
+-- The writer.
 
-test-long : (bytes : ℕ) (t : Bool) (n p : ℕ) (rest : Planned) → (t ≡ false → n ≡ 37 → 2 ^ 32 ≤ bytes) → Long bytes rest → Long bytes (require t (Refused n p) rest)
-test-long bytes true n p rest h others = others
-test-long bytes false n p rest h others = h refl
+-- one of a list is one of a longer list
+or-true : (b : Bool) {x : Bool} → x ≡ true → (if b then true else x) ≡ true
+or-true true h = refl
+or-true false h = h
 
-laid-long : (bytes tensors : ℕ) (l : Layout) (rest : Planned) → ListedLayout tensors l → Long bytes rest → Long bytes (requireLaid (laidOf l) rest)
-laid-long bytes tensors (laidOut offsets laid) rest h others = others
-laid-long bytes tensors (refusedAt n i) rest h others =
-    λ e. let not-laid : layoutRefusal 37 ≡ true = subst (λ m. layoutRefusal m ≡ true) e (h .0) in let z : _≡_ {A = ℕ} 0 1 = cc in absurd (omega arith)
+behind : (ms others : List ℕ) (n : ℕ) → isOneOf others n ≡ true → isOneOf (ms ++ others) n ≡ true
+behind [] others n h = h
+behind (m ∷ ms) others n h = or-true (eqb n m) (behind ms others n h)
 
-formed-long : (k : Dialect) (a room : ℕ) (s : List ℕ) (r : Answer Records) → r ≡ sheetOf s → Long (length s) (requireFormed r 31 (aligned k a room))
-formed-long k a room s (refused n p) h = λ e. absurd (omega arith)
-formed-long k a room s (accepted c q) h =
+in-front : (ms others : List ℕ) (n : ℕ) → isOneOf ms n ≡ true → isOneOf (ms ++ others) n ≡ true
+in-front [] others n h = let z : _≡_ {A = ℕ} 0 1 = cc in absurd (omega arith)
+in-front (m ∷ ms) others n h = by (eqb n m) h (in-front ms others n)
+  where
+    by : (b : Bool) → (if b then true else isOneOf ms n) ≡ true → (isOneOf ms n ≡ true → isOneOf (ms ++ others) n ≡ true) → (if b then true else isOneOf (ms ++ others) n) ≡ true
+    by true g rest = refl
+    by false g rest = rest g
+
+-- a refusal of the layout is one of the writer
+laid-number : (n : ℕ) → layoutRefusal n ≡ true → writerRefusal n ≡ true
+laid-number n h = behind (30 ∷ 31 ∷ 32 ∷ 33 ∷ 34 ∷ []) (35 ∷ 13 ∷ 14 ∷ 15 ∷ 36 ∷ 37 ∷ 38 ∷ []) n (in-front (35 ∷ 13 ∷ 14 ∷ 15 ∷ 36 ∷ []) (37 ∷ 38 ∷ []) n h)
+
+-- a plan, or a listed refusal, for a sheet of so many bytes and tensors
+abbrev ListedPlan : ℕ → ℕ → Planned → Type 0
+ListedPlan bytes tensors (Fine plan) = Unit {0}
+ListedPlan bytes tensors (Refused n p) = Listed bytes tensors n p
+
+-- a refusal that has the place 0 alone, and is not 37
+at-zero : (bytes tensors n : ℕ) → writerRefusal n ≡ true → placesOf bytes tensors n ≡ 1 → eqb n 37 ≡ false → Listed bytes tensors n 0
+at-zero bytes tensors n number places other =
+    record { number = number; place = rw places (omega arith); long = λ e. absurd (eqb-false n 37 other e) }
+
+laid-listed : (bytes tensors : ℕ) (l : Layout) (rest : Planned) → ListedLayout tensors l → ListedPlan bytes tensors rest → ListedPlan bytes tensors (requireLaid (laidOf l) rest)
+laid-listed bytes tensors (laidOut offsets laid) rest h others = others
+laid-listed bytes tensors (refusedAt n i) rest h others =
+    let never : n ≡ 37 → ⊥ = λ e. let z : layoutRefusal 37 ≡ true = subst (λ m. layoutRefusal m ≡ true) e (h .0) in let y : _≡_ {A = ℕ} 0 1 = cc in omega arith in
+    record { number = laid-number n (h .0); place = rw (h .0) (h .1); long = λ e. absurd (never e) }
+
+-- what follows of a sheet, well formed or not
+formed-listed : (k : Dialect) (a room : ℕ) (s : List ℕ) (r : Answer Records) → r ≡ sheetOf s → UpTo (length s) r
+    → ListedPlan (length s) (length (recordsIn r .tensors)) (requireFormed r 31 (aligned k a room))
+formed-listed k a room s (refused n p) is h = record { number = refl; place = omega arith; long = λ e. absurd (omega arith) }
+formed-listed k a room s (accepted c e) is h =
+    let bytes : ℕ = length s in
+    let tensors : ℕ = length (c .tensors) in
+    let P : Planned → Type 0 = ListedPlan (length s) (length (c .tensors)) in
     let same : 0 + length (map pieceOf (c .tensors)) ≤ length (c .tensors) = omega (arith, length-map (c .tensors) pieceOf) in
-    test-long (length s) (isAlignment a) 32 0 _ (λ t e. absurd (omega arith))
-    (test-long (length s) (canAdd a (ownAlignment (c .entries))) 33 0 _ (λ t e. absurd (omega arith))
-    (test-long (length s) (agrees a (ownAlignment (c .entries))) 34 0 _ (λ t e. absurd (omega arith))
-    (laid-long (length s) (length (c .tensors)) (layoutOf a (map pieceOf (c .tensors))) _ (from-listed a nothingLaid (length (c .tensors)) 0 (map pieceOf (c .tensors)) same)
-    (test-long (length s) (countsFit k (length (entriesOf a (c .entries))) (length (c .tensors))) 37 0 _ (λ t e. sheet-over k a s h t)
-    (test-long (length s) (leb (startOf k a c) room) 38 0 _ (λ t e. absurd (omega arith)) tt)))))
+    by-test P (isAlignment a) _ _ (λ t. at-zero bytes tensors 32 refl refl refl)
+    (by-test P (canAdd a (ownAlignment (c .entries))) _ _ (λ t. at-zero bytes tensors 33 refl refl refl)
+    (by-test P (agrees a (ownAlignment (c .entries))) _ _ (λ t. at-zero bytes tensors 34 refl refl refl)
+    (laid-listed bytes tensors (layoutOf a (map pieceOf (c .tensors))) _ (from-listed a nothingLaid tensors 0 (map pieceOf (c .tensors)) same)
+    (by-test P (countsFit k (length (entriesOf a (c .entries))) (length (c .tensors))) _ _ (λ t. record { number = refl; place = omega arith; long = λ i. sheet-over k a s is t })
+    (by-test P (leb (startOf k a c) room) _ _ (λ t. at-zero bytes tensors 38 refl refl refl) tt)))))
 
-plan-long : (k : Dialect) (a room : ℕ) (s : List ℕ) → Long (length s) (planFor k a room s)
+plan-listed : (k : Dialect) (a room : ℕ) (s : List ℕ) → ListedPlan (length s) (length (recordsIn (sheetOf s) .tensors)) (planFor k a room s)
 unfolding planFor
-plan-long k a room s = test-long (length s) (knownVersion (k .version)) 30 0 _ (λ t e. absurd (omega arith)) (formed-long k a room s (sheetOf s) refl)
+plan-listed k a room s =
+    by-test (ListedPlan (length s) (length (recordsIn (sheetOf s) .tensors))) (knownVersion (k .version)) _ _ (λ t. at-zero _ _ 30 refl refl refl)
+    (formed-listed k a room s (sheetOf s) refl (sheet-up-to s))
 
-long-refused : (bytes : ℕ) (p : Planned) {i : ℕ} → writtenOf p ≡ NotWritten 37 i → Long bytes p → 2 ^ 32 ≤ bytes
-long-refused bytes (Fine plan) e h = let z : _≡_ {A = ℕ} 0 1 = cc in absurd (omega arith)
-long-refused bytes (Refused n j) {i} e h =
-    let same : n ≡ 37 = cc in
-    h same
+refused-plan : (bytes tensors : ℕ) (p : Planned) {n i : ℕ} → writtenOf p ≡ NotWritten n i → ListedPlan bytes tensors p → Listed bytes tensors n i
+refused-plan bytes tensors (Fine plan) e h = let z : _≡_ {A = ℕ} 0 1 = cc in absurd (omega arith)
+refused-plan bytes tensors (Refused m j) {n} {i} e h =
+    let same : m ≡ n = cc in
+    let at : j ≡ i = cc in
+    rw (← same, ← at) h
 
--- for any version, byte order, alignment and output: a record sheet of less than 4 GiB is never refused as 37
-pub never-37 : (k : Dialect) (a : ℕ) (s out : List ℕ) {p : ℕ} → length s < 2 ^ 32 → answerFor k a s out ≡ NotWritten 37 p → ⊥
-never-37 k a s out small h =
-    let long = long-refused (length s) (planFor k a (length out) s) h (plan-long k a (length out) s) in
-    omega arith
+-- for any version, byte order, alignment, record sheet and output: the refusal is a listed one, at
+-- one of its places, and 37 takes a sheet of 2 ^ 32 bytes
+pub writer-refusals-listed : (k : Dialect) (a : ℕ) (s out : List ℕ) {n p : ℕ} → answerFor k a s out ≡ NotWritten n p → Listed (length s) (length (recordsIn (sheetOf s) .tensors)) n p
+writer-refusals-listed k a s out h = refused-plan _ _ (planFor k a (length out) s) h (plan-listed k a (length out) s)
 
 -- Each other number is given.
 

@@ -1,6 +1,6 @@
 -- The refusals of the writer, of the layout and of the range check: which numbers they are, how
 -- many places each may have, and that each of them is given.
-use Prim.Native.Nat.{ℕ, suc, _-_, _^_}
+use Prim.Native.Nat.{ℕ, suc, _-_, _^_, _≤_, _<_}
 use mathlib.Core.Path.{_≡_}
 use mathlib.Core.Bool.{Bool, true, false}
 use mathlib.Core.List.{List, [], _∷_, _++_}
@@ -30,6 +30,13 @@ writerRefusal n = isOneOf (30 ∷ 31 ∷ 32 ∷ 33 ∷ 34 ∷ 35 ∷ 13 ∷ 14 �
 abbrev pub placesOf : (bytes tensors : ℕ) → ℕ → ℕ
 placesOf bytes tensors n = if layoutRefusal n then tensors else if eqb n 31 then suc bytes else 1
 
+-- what is sure of a refusal n of the writer at the place p, for a sheet of so many bytes and
+-- tensors: n is listed, p is one of its places, and 37 takes a sheet of 4 GiB or more
+pub record Listed (bytes tensors n p : ℕ) : Type 0 where
+  pub number : writerRefusal n ≡ true
+  pub place : p < placesOf bytes tensors n
+  pub long : n ≡ 37 → 2 ^ 32 ≤ bytes
+
 -- Sheets that are refused.
 
 -- the alignment 64, as a u32
@@ -48,8 +55,8 @@ squareEntry = 0 ∷ 0 ∷ 0 ∷ 27 ∷ 2 ∷ 0 ∷ 0 ∷ 0 ∷ 1 ∷ 97 ∷ 0 �
 abbrev pub halfEntry : List ℕ
 halfEntry = flatEntry 97 24 (128 ∷ 0 ∷ 0 ∷ 0 ∷ 0 ∷ 0 ∷ 0 ∷ 0 ∷ [])
 
--- Each number of the writer but 37 is given: a count above 2 ^ 32 - 1 takes a sheet of more than
--- 4 GiB. The output has no bytes.
+-- Each number of the writer is given, but for 37, which no sheet below 4 GiB reaches. The output
+-- has no bytes. That the range check gives 20 is among the known numbers.
 pub record Given : Type 0 where
   pub version : answerFor (little 4) 32 (1 ∷ []) [] ≡ NotWritten 30 0
   pub sheet : answerFor (little 3) 32 (1 ∷ 0 ∷ []) [] ≡ NotWritten 31 1
