@@ -1,15 +1,19 @@
--- The known numbers, all of one table: the checker computes each from the definitions. Assumes
--- nothing.
+-- The known numbers, all of one table: the checker computes each from the definitions.
+-- Assumes nothing.
 use mathlib.Core.Path.{refl}
 use Rattle.fields.specs.Bytes.{little, bytesOf}
 use Rattle.reading.specs.Back.{bytesOfAll}
+use Rattle.reading.specs.Ceilings.{under}
 use Rattle.reading.specs.Each.{each}
 use Rattle.reading.specs.Reading.{run, here, andThen, _>>=_}
 use Rattle.fields.specs.Value.{number}
 use Rattle.kinds.specs.Table.{blockOf}
 use Rattle.layout.specs.Layout.{placeOf, layoutFrom}
 use Rattle.scalars.specs.Scalars.{scalarWidth}
-use Rattle.tensors.specs.Format.{lengthAt, lengthsOf}
+use Rattle.values.specs.Format.{size, textLooking, text as textRead}
+use Rattle.tensors.specs.Format.{lengthAt, lengthsOf, shape as shapeRead, kindAndOffset, tensor as tensorRead}
+use Rattle.start.specs.Format.{magic, version, counts, start}
+use Rattle.header.specs.Format.{header}
 use Rattle.values.specs.Contents.{sizeBytes, textBytes, typeBytes, valueBytes, entryBytes}
 use Rattle.tensors.specs.Contents.{lengthBytes, shapeBytes, kindAndOffsetBytes, tensorBytes}
 use Rattle.start.specs.Contents.{startBytes}
@@ -22,7 +26,8 @@ use Rattle.writer.specs.Output.{headerFor}
 use Rattle.promises.specs.Known.{Known}
 
 pub known : Known
-unfolding run each number here _>>=_ andThen lengthsOf lengthAt blockOf placeOf layoutFrom
+unfolding under header magic version start counts size textRead textLooking shapeRead kindAndOffset tensorRead
+    run each number here _>>=_ andThen lengthsOf lengthAt blockOf placeOf layoutFrom
     sheetOf entriesFrom tensorsFrom asMany text textOf bytes opening framed shape tensorBody tensor planFor headerFor
     headerBytes startBytes sizeBytes textBytes typeBytes valueBytes entryBytes lengthBytes shapeBytes kindAndOffsetBytes tensorBytes bytesOf little bytesOfAll scalarWidth
 known = record {
@@ -37,10 +42,16 @@ known = record {
   no-dimensions = refl;
   too-long = refl;
   just-fits = refl;
+  kind-2-read = refl;
+  no-dimensions-read = refl;
+  no-dimensions-row = refl;
+  too-long-read = refl;
+  just-fits-read = refl;
   no-sheet = λ out. refl;
   only-version = refl;
   then-zeros = refl;
   alignment-64 = refl;
+  output-64 = refl;
   written-3 = refl;
   written-1 = refl;
   output-3 = refl;

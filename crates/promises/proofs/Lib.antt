@@ -7,3 +7,4 @@ pub mod Offsets
 pub mod KeysAscend
 pub mod OneResult
 pub mod Known
+pub mod RefusalsListed

@@ -1,11 +1,10 @@
--- The known numbers, as one table: files and sheets byte by byte, and what the definitions say of
--- them.
+-- The known numbers, as one table: files and sheets byte by byte, and what the definitions say.
 use Prim.Native.Nat.{ℕ, _-_, _^_}
 use mathlib.Core.Path.{_≡_}
 use mathlib.Core.List.{List, [], _∷_, _++_, map}
 use mathlib.Core.Bool.{false}
 use lib.ListN.{replicate}
-use Rattle.reading.specs.Reading.{accepted}
+use Rattle.reading.specs.Reading.{Answer, accepted, refused}
 use Rattle.kinds.specs.declared.Measure.the-variants.{Bytes, Refused as Unmeasured}
 use Rattle.kinds.specs.Shape.{measureOf}
 use Rattle.layout.specs.Layout.{Piece, laidOut, layoutOf}
@@ -13,6 +12,7 @@ use Rattle.values.specs.declared.Dialect.{Dialect}
 use Rattle.tensors.specs.declared.Tensor.{Tensor}
 use Rattle.tensors.specs.Rows.{tensorRow}
 use Rattle.header.specs.declared.Header.{Header}
+use Rattle.header.specs.Format.{FullHeader}
 use Rattle.reading.specs.Ceilings.{full}
 use Rattle.header.specs.Answers.{readerRun}
 use Rattle.ranges.specs.declared.RangeCheck.the-variants.{Inside, Refused as Outside}
@@ -30,15 +30,28 @@ empty3 = 0x47 ∷ 0x47 ∷ 0x55 ∷ 0x46 ∷ 3 ∷ 0 ∷ 0 ∷ 0 ∷ replicate 1
 abbrev pub empty1 : List ℕ
 empty1 = 0x47 ∷ 0x47 ∷ 0x55 ∷ 0x46 ∷ 1 ∷ 0 ∷ 0 ∷ 0 ∷ replicate 8 0
 
--- version 3: a, of kind 0, with 5 numbers, at offset 0; and b, of kind 1, with 3 numbers, at offset
--- 32
+-- version 3: a, of kind 0, with 5 numbers, at offset 0;
+-- and b, of kind 1, with 3 numbers, at offset 32
 abbrev pub tensors3 : List ℕ
 tensors3 =
     0x47 ∷ 0x47 ∷ 0x55 ∷ 0x46 ∷ 3 ∷ 0 ∷ 0 ∷ 0 ∷ 2 ∷ 0 ∷ 0 ∷ 0 ∷ 0 ∷ 0 ∷ 0 ∷ 0 ∷ 0 ∷ 0 ∷ 0 ∷ 0 ∷ 0 ∷ 0 ∷ 0 ∷ 0 ∷
     1 ∷ 0 ∷ 0 ∷ 0 ∷ 0 ∷ 0 ∷ 0 ∷ 0 ∷ 97 ∷ 1 ∷ 0 ∷ 0 ∷ 0 ∷ 5 ∷ 0 ∷ 0 ∷ 0 ∷ 0 ∷ 0 ∷ 0 ∷ 0 ∷ 0 ∷ 0 ∷ 0 ∷ 0 ∷ 0 ∷ 0 ∷ 0 ∷ 0 ∷ 0 ∷ 0 ∷ 0 ∷ 0 ∷
     1 ∷ 0 ∷ 0 ∷ 0 ∷ 0 ∷ 0 ∷ 0 ∷ 0 ∷ 98 ∷ 1 ∷ 0 ∷ 0 ∷ 0 ∷ 3 ∷ 0 ∷ 0 ∷ 0 ∷ 0 ∷ 0 ∷ 0 ∷ 0 ∷ 1 ∷ 0 ∷ 0 ∷ 0 ∷ 32 ∷ 0 ∷ 0 ∷ 0 ∷ 0 ∷ 0 ∷ 0 ∷ 0 ∷ []
 
--- the same two in version 1
+-- version 3: the tensor a alone, at offset 0, of the kind k, with these bytes of its shape
+abbrev pub alone3 : ℕ → List ℕ → List ℕ
+alone3 k shape =
+    (0x47 ∷ 0x47 ∷ 0x55 ∷ 0x46 ∷ 3 ∷ 0 ∷ 0 ∷ 0 ∷ 1 ∷ 0 ∷ 0 ∷ 0 ∷ 0 ∷ 0 ∷ 0 ∷ 0 ∷ 0 ∷ 0 ∷ 0 ∷ 0 ∷ 0 ∷ 0 ∷ 0 ∷ 0 ∷
+    1 ∷ 0 ∷ 0 ∷ 0 ∷ 0 ∷ 0 ∷ 0 ∷ 0 ∷ 97 ∷ shape) ++ (k ∷ 0 ∷ 0 ∷ 0 ∷ 0 ∷ 0 ∷ 0 ∷ 0 ∷ 0 ∷ 0 ∷ 0 ∷ 0 ∷ [])
+
+-- version 3, no tensors, and one entry: general.alignment is the u32 64
+abbrev pub aligned3 : List ℕ
+aligned3 =
+    0x47 ∷ 0x47 ∷ 0x55 ∷ 0x46 ∷ 3 ∷ 0 ∷ 0 ∷ 0 ∷ 0 ∷ 0 ∷ 0 ∷ 0 ∷ 0 ∷ 0 ∷ 0 ∷ 0 ∷ 1 ∷ 0 ∷ 0 ∷ 0 ∷ 0 ∷ 0 ∷ 0 ∷ 0 ∷
+    17 ∷ 0 ∷ 0 ∷ 0 ∷ 0 ∷ 0 ∷ 0 ∷ 0 ∷ 103 ∷ 101 ∷ 110 ∷ 101 ∷ 114 ∷ 97 ∷ 108 ∷ 46 ∷ 97 ∷ 108 ∷ 105 ∷ 103 ∷ 110 ∷ 109 ∷ 101 ∷ 110 ∷ 116 ∷
+    4 ∷ 0 ∷ 0 ∷ 0 ∷ 64 ∷ 0 ∷ 0 ∷ 0 ∷ []
+
+-- a and b in version 1
 abbrev pub tensors1 : List ℕ
 tensors1 =
     0x47 ∷ 0x47 ∷ 0x55 ∷ 0x46 ∷ 1 ∷ 0 ∷ 0 ∷ 0 ∷ 2 ∷ 0 ∷ 0 ∷ 0 ∷ 0 ∷ 0 ∷ 0 ∷ 0 ∷
@@ -78,6 +91,21 @@ flat p k n o b = record {
 abbrev pub rowsAB : List (List ℕ)
 rowsAB = map tensorRow (flat 32 0 5 0 20 ∷ flat 65 1 3 32 6 ∷ [])
 
+-- the tensor a of kind 0 with no dimensions
+abbrev pub scalarA : Tensor
+scalarA = record {
+  name = record { place = 32; len = 1 };
+  shape = record { dimensions = 0; first = 1; second = 1; third = 1; fourth = 1 };
+  kind = 0;
+  offset = 0;
+  parameters = 1;
+  size = 4;
+}
+
+-- the answer for a file of version 3 with one tensor, that ends at e and has its data at 64
+abbrev pub only : Tensor → ℕ → Answer FullHeader
+only t e = accepted (record { head = plain 3 1 e 64; entries = []; tensors = t ∷ [] }) e
+
 -- a tensor of one length that is to be laid
 abbrev pub piece : ℕ → ℕ → Piece
 piece n k = record { lengths = n ∷ 1 ∷ 1 ∷ 1 ∷ []; kind = k }
@@ -87,26 +115,34 @@ pub record Known : Type 0 where
   -- the empty file: 24 bytes and 16, and the data at 32
   pub empty-3 : readerRun full 0 [] [] empty3 ≡ accepted (record { head = plain 3 0 24 32; entries = []; tensors = [] }) 24
   pub empty-1 : readerRun full 0 [] [] empty1 ≡ accepted (record { head = plain 1 0 16 32; entries = []; tensors = [] }) 16
-  -- a and b: sizes 20 and 6, offsets 0 and 32; the header ends at 90 and at 74, and the data is at
-  -- 96
+  -- a and b: sizes 20 and 6, offsets 0 and 32;
+  -- the header ends at 90 and at 74, and the data is at 96
   pub two-3 : readerRun full 0 [] ([] ∷ [] ∷ []) tensors3 ≡ accepted (record { head = plain 3 2 90 96; entries = []; tensors = flat 32 0 5 0 20 ∷ flat 65 1 3 32 6 ∷ [] }) 90
   pub two-1 : readerRun full 0 [] ([] ∷ [] ∷ []) tensors1 ≡ accepted (record { head = plain 1 2 74 96; entries = []; tensors = flat 20 0 5 0 20 ∷ flat 49 1 3 32 6 ∷ [] }) 74
   pub two-laid : layoutOf 32 (piece 5 0 ∷ piece 3 1 ∷ []) ≡ laidOut (0 ∷ 32 ∷ []) (record { total = 8; next = 64 })
   -- a file of 134 bytes holds them, and one of 133 does not hold tensor 1
   pub file-134 : checkFrom 96 134 0 rowsAB ≡ Inside
   pub file-133 : checkFrom 96 133 0 rowsAB ≡ Outside 20 1
-  -- sizes: kind 2 with 33 numbers; kind 0 with no dimensions, with 2 ^ 62 numbers and with one
-  -- fewer
+  -- sizes: kind 2 with 33 numbers;
+  -- kind 0 with no dimensions, with 2 ^ 62 numbers and with one fewer
   pub kind-2 : measureOf (33 ∷ 1 ∷ 1 ∷ 1 ∷ []) 2 ≡ Bytes 33 18
   pub no-dimensions : measureOf (1 ∷ 1 ∷ 1 ∷ 1 ∷ []) 0 ≡ Bytes 1 4
   pub too-long : measureOf (2 ^ 62 ∷ 1 ∷ 1 ∷ 1 ∷ []) 0 ≡ Unmeasured 14
   pub just-fits : measureOf ((2 ^ 62 - 1) ∷ 1 ∷ 1 ∷ 1 ∷ []) 0 ≡ Bytes (2 ^ 62 - 1) (2 ^ 64 - 4)
+  -- the same four through the reader, which refuses 2 ^ 62 numbers at the tensor's start;
+  -- and the row of the one with no dimensions
+  pub kind-2-read : readerRun full 0 [] ([] ∷ []) (alone3 2 (1 ∷ 0 ∷ 0 ∷ 0 ∷ 33 ∷ 0 ∷ 0 ∷ 0 ∷ 0 ∷ 0 ∷ 0 ∷ 0 ∷ [])) ≡ only (flat 32 2 33 0 18) 57
+  pub no-dimensions-read : readerRun full 0 [] ([] ∷ []) (alone3 0 (0 ∷ 0 ∷ 0 ∷ 0 ∷ [])) ≡ only scalarA 49
+  pub no-dimensions-row : tensorRow scalarA ≡ 32 ∷ 1 ∷ 0 ∷ 0 ∷ 1 ∷ 1 ∷ 1 ∷ 1 ∷ 0 ∷ 4 ∷ []
+  pub too-long-read : readerRun full 0 [] ([] ∷ []) (alone3 0 (1 ∷ 0 ∷ 0 ∷ 0 ∷ 0 ∷ 0 ∷ 0 ∷ 0 ∷ 0 ∷ 0 ∷ 0 ∷ 64 ∷ [])) ≡ refused 14 24
+  pub just-fits-read : readerRun full 0 [] ([] ∷ []) (alone3 0 (1 ∷ 0 ∷ 0 ∷ 0 ∷ 255 ∷ 255 ∷ 255 ∷ 255 ∷ 255 ∷ 255 ∷ 255 ∷ 63 ∷ [])) ≡ only (flat 32 0 (2 ^ 62 - 1) 0 (2 ^ 64 - 4)) 57
   -- a sheet of no bytes is refused, whatever the output
   pub no-sheet : (out : List ℕ) → answerFor (little 3) 32 [] out ≡ NotWritten 31 0
   -- the sheet of the byte 1: 24 bytes, then 8 zeros; and, with alignment 64, 57 bytes, then 7 zeros
   pub only-version : answerFor (little 3) 32 (1 ∷ []) (replicate 32 255) ≡ Written 24 32
   pub then-zeros : outputFor (little 3) 32 (1 ∷ []) (replicate 33 255) ≡ empty3 ++ replicate 8 0 ++ (255 ∷ [])
   pub alignment-64 : answerFor (little 3) 64 (1 ∷ []) (replicate 64 255) ≡ Written 57 64
+  pub output-64 : outputFor (little 3) 64 (1 ∷ []) (replicate 65 255) ≡ aligned3 ++ replicate 7 0 ++ (255 ∷ [])
   -- the sheet of a and b becomes the files above
   pub written-3 : answerFor (little 3) 32 sheetAB (replicate 96 255) ≡ Written 90 96
   pub written-1 : answerFor (little 1) 32 sheetAB (replicate 96 255) ≡ Written 74 96
