@@ -44,11 +44,11 @@ pub enum FileTypeRead {
 
 // The first word of what a string question tells, beside refusals' numbers: a string, no such key,
 // a value of another type.
-pub const TOLD_STRING: u64 = 0;
+pub const STATUS_STRING: u64 = 0;
 
-pub const TOLD_ABSENT: u64 = 100;
+pub const STATUS_ABSENT: u64 = 100;
 
-pub const TOLD_OTHER_TYPE: u64 = 101;
+pub const STATUS_OTHER_TYPE: u64 = 101;
 
 // Whether a text is that key.
 fn is_key(s: &[u8], span: Span, key: &[u8]) -> bool
@@ -140,35 +140,35 @@ pub fn string_status(found: Lookup) -> [u64; 2]
     ensures { λ r. ⌜ r ≡ questions.stringStatus found ⌝ }
 {
     match found {
-        Lookup::Absent => [TOLD_ABSENT, 0],
+        Lookup::Absent => [STATUS_ABSENT, 0],
         Lookup::Refused { why, place } => [why, place as u64],
         Lookup::Found { entry } => {
             let v = entry.value;
             match v {
-                Value::Single(_) => [TOLD_OTHER_TYPE, 0],
-                Value::Array(_) => [TOLD_OTHER_TYPE, 0],
-                Value::Text(_) => [TOLD_STRING, 0],
+                Value::Single(_) => [STATUS_OTHER_TYPE, 0],
+                Value::Array(_) => [STATUS_OTHER_TYPE, 0],
+                Value::Text(_) => [STATUS_STRING, 0],
             }
         }
     }
 }
 
-// The string of a key, as a part of the prefix, and in told what its emptiness means.
-pub fn find_string<'a>(s: &'a [u8], key: &[u8], told: &mut [u64; 2]) -> &'a [u8]
+// The string of a key, as a part of the prefix, and in status what an empty part means.
+pub fn find_string<'a>(s: &'a [u8], key: &[u8], status: &mut [u64; 2]) -> &'a [u8]
     ensures { λ r. ⌜ now r ≡ questions.stringOf (now (s .entry)) (questions.lookup (now (key .entry)) (now (s .entry))) ⌝ }
-    ensures { λ r. ⌜ now (told .exit) ≡ questions.stringStatus (questions.lookup (now (key .entry)) (now (s .entry))) ⌝ }
+    ensures { λ r. ⌜ now (status .exit) ≡ questions.stringStatus (questions.lookup (now (key .entry)) (now (s .entry))) ⌝ }
 {
     let found = find(s, key);
-    *told = string_status(found);
+    *status = string_status(found);
     string_of(s, found)
 }
 
 // The model's family: the string of "general.architecture".
-pub fn model_family<'a>(s: &'a [u8], told: &mut [u64; 2]) -> &'a [u8]
+pub fn model_family<'a>(s: &'a [u8], status: &mut [u64; 2]) -> &'a [u8]
     ensures { λ r. ⌜ now r ≡ questions.stringOf (now (s .entry)) (questions.lookup questions.architectureKey (now (s .entry))) ⌝ }
-    ensures { λ r. ⌜ now (told .exit) ≡ questions.stringStatus (questions.lookup questions.architectureKey (now (s .entry))) ⌝ }
+    ensures { λ r. ⌜ now (status .exit) ≡ questions.stringStatus (questions.lookup questions.architectureKey (now (s .entry))) ⌝ }
 {
-    find_string(s, b"general.architecture", told)
+    find_string(s, b"general.architecture", status)
 }
 
 // The file type that a number says: the table has the numbers 0 to 24.

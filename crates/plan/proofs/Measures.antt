@@ -24,13 +24,13 @@ use Rattle.values.specs.Contents.{ValueContent, Content, aScalar, aText, anArra
 use Rattle.values.proofs.Texts.{bytes-length}
 use Rattle.header.specs.Contents.{contentAlignment}
 use Rattle.sheet.specs.Format.{Text, scalar, itemType, array, item, value}
-use Rattle.sheet.specs.Sheet.{stepOf}
 use Rattle.sheet.specs.declared.Stepped.the-variants.{To}
 use Rattle.sheet.proofs.SheetItems.{has-width, has-none, value-array}
 use Rattle.sheet.proofs.Steps.{step-yes}
 use Rattle.sheet.proofs.PartsFound.{TextTold, scalar-told, sure-textOf, sure-text, onward}
-use Rattle.plan.specs.Header.{contentRead}
 use Rattle.plan.proofs.Sizes.{size-cases, one-length, word-length, list-length, rows-more, rows-none}
+use Rattle.sheet.specs.Steps.{stepOf}
+use Rattle.plan.specs.Steps.{contentRead}
 
 -- two answers of one run
 pub never-both : {A : Type 0} {r : Answer A} {a : A} {q n p : ℕ} → accepted a q ≡ r → refused n p ≡ r → ⊥

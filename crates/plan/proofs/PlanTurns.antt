@@ -38,9 +38,9 @@ use Rattle.plan.specs.declared.Room.{Room}
 use Rattle.plan.specs.declared.OwnAlignment.{OwnAlignment}
 use Rattle.plan.specs.declared.OwnAlignment.the-variants.{Own}
 use Rattle.plan.specs.declared.LaidOut.the-variants.{Fits, Refused as NotLaid}
-use Rattle.plan.specs.Header.{ownAlignmentWith, entryIn, pieceOf, contentAt, laidWith, laidFrom, contentRead}
+use Rattle.plan.specs.Header.{ownAlignmentWith, entryIn, pieceOf, contentAt, laidWith, laidFrom}
 use Rattle.plan.specs.Plan.{laidOf}
-use Rattle.plan.specs.Steps.{takenFrom}
+use Rattle.plan.specs.Steps.{takenFrom, contentRead}
 use Rattle.plan.proofs.Rooms.{taken-none, taken-twice}
 use Rattle.plan.proofs.Sizes.{entry-length, stored-length, tensor-eights, rows-none, rows-more}
 use Rattle.plan.proofs.Measures.{heard-one}

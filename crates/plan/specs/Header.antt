@@ -89,11 +89,6 @@ startOf k a c = padded a (endOf k a c)
 
 -- What single steps read.
 
--- what a value says; of none, nothing
-abbrev pub contentRead : {I : Type 0} → Answer (ValueContent I) → ValueContent I
-contentRead (accepted c q) = c
-contentRead (refused n p) = aText []
-
 -- what a sheet that is well formed says
 abbrev pub recordsIn : Answer Records → Records
 recordsIn (accepted c e) = c

@@ -15,6 +15,25 @@ use Rattle.plan.specs.declared.Room.the-variants.{Left, Over}
 use Rattle.plan.specs.Header.{ownAlignment, entriesOf, pieceOf, startOf}
 use Rattle.plan.specs.Plan.{canAdd, agrees, laidOf, requireLaid, countsFit, planOf}
 use Rattle.header.specs.Format.{isAlignment}
+use Prim.Native.Nat.{ℕ}
+use mathlib.Core.Bool.{Bool, false, not}
+use mathlib.Core.List.{List, [], _∷_, map}
+use lib.Dec.{eqb}
+use Rattle.reading.specs.Choice.{if_then_else_}
+use Rattle.reading.specs.Each.{fold}
+use Rattle.fields.specs.Order.{before}
+use Rattle.reading.specs.Reading.{Answer, accepted, refused}
+use Rattle.layout.specs.declared.Laid.{Laid}
+use Rattle.layout.specs.Padding.{padded}
+use Rattle.layout.specs.Layout.{Piece, nothingLaid, laidAfter}
+use Rattle.values.specs.Format.{isWord, alignmentKey}
+use Rattle.tensors.specs.Format.{lengths}
+use Rattle.values.specs.Contents.{ValueContent, aScalar, aText, EntryContent}
+use Rattle.tensors.specs.Contents.{TensorContent, contentOf}
+use Rattle.header.specs.Contents.{Contents, headerBytes, contentAlignment}
+use Rattle.sheet.specs.Format.{SheetEntry, SheetTensor}
+use Rattle.plan.specs.declared.OwnAlignment.{OwnAlignment}
+use Rattle.plan.specs.declared.OwnAlignment.the-variants.{Own, Absent}
 
 -- the test of the room
 abbrev pub roomed : Dialect → ℕ → ℕ → Records → Planned
@@ -38,3 +57,8 @@ aligned k a room c =
 unfoldable pub takenFrom : Room → ℕ → Room
 takenFrom (Left room) n = if leb n room then Left (room - n) else Over
 takenFrom Over n = Over
+
+-- what a value says; of none, nothing
+abbrev pub contentRead : {I : Type 0} → Answer (ValueContent I) → ValueContent I
+contentRead (accepted c q) = c
+contentRead (refused n p) = aText []

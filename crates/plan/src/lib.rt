@@ -29,12 +29,13 @@ ghost use Rattle.tensors.specs.Contents.{tensorBytes};
 ghost use Rattle.header.specs.Contents.{contentAlignment};
 ghost use Rattle.sheet.specs.Format as format;
 ghost use Rattle.sheet.specs.declared.Stepped.the-variants.{To};
-ghost use Rattle.sheet.specs.Sheet.{sheetOf, stepOf};
+ghost use Rattle.sheet.specs.Sheet.{sheetOf};
 ghost use Rattle.layout.specs.declared.Laid.{Laid};
 ghost use Rattle.plan.specs.declared.Room.the-variants.{Left};
 ghost use Rattle.plan.specs.Header as header_of;
 ghost use Rattle.plan.specs.Plan as plan_of;
 ghost use Rattle.plan.specs.Steps as steps;
+ghost use Rattle.sheet.specs.Steps.{stepOf};
 
 // The alignment that a sheet says itself, if it does.
 pub enum OwnAlignment {
@@ -78,7 +79,7 @@ pub enum Room {
 // The alignment that a value gives a reader. It is of the type form and ends at end.
 fn value_alignment(s: &[u8], at: usize, end: usize, form: u64) -> u64
     requires { ⌜ isAccepted (run (format.value end form) (now s) at) ≡ true ⌝ }
-    ensures { λ r. ⌜ r ≡ contentAlignment (header_of.contentRead (run (format.value end form) (now (s .entry)) at)) ⌝ }
+    ensures { λ r. ⌜ r ≡ contentAlignment (steps.contentRead (run (format.value end form) (now (s .entry)) at)) ⌝ }
 {
     match scalars::scalar_width(form) {
         ScalarWidth::None => 32,
@@ -186,7 +187,7 @@ fn take_from(room: Room, n: usize) -> Room
 // the sizes of texts.
 fn array_room(room: Room, s: &[u8], at: usize, end: usize, dialect: Dialect) -> Room
     requires { ⌜ To end ≡ stepOf (run (format.array depth (format.item depth)) (now s) at) ⌝ }
-    ensures { λ r. ⌜ r ≡ steps.takenFrom room (length (valueBytes (suc depth) dialect (header_of.contentRead (run (format.array depth (format.item depth)) (now (s .entry)) at)))) ⌝ }
+    ensures { λ r. ⌜ r ≡ steps.takenFrom room (length (valueBytes (suc depth) dialect (steps.contentRead (run (format.array depth (format.item depth)) (now (s .entry)) at)))) ⌝ }
 {
     let Number::Value { value: t, next: p } = fields::number_at(s, at, Width::One, true) else {
         return room;
@@ -207,7 +208,7 @@ fn array_room(room: Room, s: &[u8], at: usize, end: usize, dialect: Dialect) -> 
 // The room without a value, which is of the type form and ends at end.
 fn value_room(room: Room, s: &[u8], at: usize, end: usize, form: u64, dialect: Dialect) -> Room
     requires { ⌜ To end ≡ stepOf (run (format.value end form) (now s) at) ⌝ }
-    ensures { λ r. ⌜ r ≡ steps.takenFrom room (length (valueBytes (suc depth) dialect (header_of.contentRead (run (format.value end form) (now (s .entry)) at)))) ⌝ }
+    ensures { λ r. ⌜ r ≡ steps.takenFrom room (length (valueBytes (suc depth) dialect (steps.contentRead (run (format.value end form) (now (s .entry)) at)))) ⌝ }
 {
     if form == 9 {
         return array_room(room, s, at, end, dialect);
@@ -222,7 +223,7 @@ fn value_room(room: Room, s: &[u8], at: usize, end: usize, form: u64, dialect: D
 // The room without an entry.
 fn entry_room(room: Room, s: &[u8], parts: EntryParts, end: usize, dialect: Dialect) -> Room
     requires { ⌜ To end ≡ stepOf (run (format.value end (parts .form)) (now s) (parts .value)) ⌝ }
-    ensures { λ r. ⌜ r ≡ steps.takenFrom room (sizeWidth dialect + 4 + parts .key .len + length (valueBytes (suc depth) dialect (header_of.contentRead (run (format.value end (parts .form)) (now (s .entry)) (parts .value))))) ⌝ }
+    ensures { λ r. ⌜ r ≡ steps.takenFrom room (sizeWidth dialect + 4 + parts .key .len + length (valueBytes (suc depth) dialect (steps.contentRead (run (format.value end (parts .form)) (now (s .entry)) (parts .value))))) ⌝ }
 {
     let key = parts.key;
     let named = take_from(take_from(room, size_width(dialect) + 4), key.len);

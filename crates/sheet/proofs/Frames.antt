@@ -12,10 +12,10 @@ use Rattle.reading.specs.Choice.{if_then_else_}
 use Rattle.reading.specs.Reading.{Reading, done, Answer, accepted, refused, run, _>>=_, _>>_, here, check, andThen}
 use Rattle.reading.proofs.RunLaws.{goes-on, run-bind, stops, inside}
 use Rattle.sheet.specs.Format.{opening, framed}
-use Rattle.sheet.specs.Sheet.{openedOf}
 use Rattle.sheet.specs.declared.Opened.the-variants.{Body, Bad}
 use Rattle.sheet.proofs.PartsFound.{sure-opening}
 use Rattle.sheet.proofs.Steps.{Refusal}
+use Rattle.sheet.specs.Steps.{openedOf}
 
 -- an answer that stays where it ends at e
 abbrev pub upTo : {A : Type 0} → ℕ → Answer A → Answer A

@@ -14,11 +14,12 @@ use Rattle.reading.specs.Reading.{Reading, Answer, accepted, refused, run, andT
 use Rattle.reading.proofs.SureLaws.{sure-then, sure-done, sure-check}
 use Rattle.values.specs.Contents.{insideOf}
 use Rattle.sheet.specs.Format.{SheetEntry, metadata}
-use Rattle.sheet.specs.Sheet.{asMany, countOf, isMetadata, Last, follows, next}
+use Rattle.sheet.specs.Sheet.{asMany, isMetadata, Last, follows, next}
 use Rattle.sheet.specs.declared.Counted.{Counted}
 use Rattle.sheet.specs.declared.Counted.the-variants.{Counts, Bad}
 use Rattle.sheet.proofs.PartsFound.{entry-told, entry-ends}
 use Rattle.sheet.proofs.Steps.{Refusal}
+use Rattle.sheet.specs.Steps.{countOf}
 
 -- so many more
 abbrev pub added : ℕ → Counted → Counted

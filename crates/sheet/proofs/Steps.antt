@@ -12,7 +12,7 @@ use Rattle.reading.proofs.Repetition.{times-stops, times-passed, times-never}
 use Rattle.tensors.specs.declared.Shape.{Shape}
 use Rattle.values.specs.declared.Span.{Span}
 use Rattle.sheet.specs.Format.{Text, SheetEntry, SheetTensor}
-use Rattle.sheet.specs.Sheet.{stepOf, spanOf, entryOf, shapeOf, tensorOf, countOf}
+use Rattle.sheet.specs.Sheet.{spanOf, entryOf, tensorOf}
 use Rattle.sheet.specs.declared.EntryParts.{EntryParts}
 use Rattle.sheet.specs.declared.TensorParts.{TensorParts}
 use Rattle.sheet.specs.declared.Stepped.the-variants.{To, Bad}
@@ -21,6 +21,7 @@ use Rattle.sheet.specs.declared.ShapeFound.the-variants.{Found as FoundS
 use Rattle.sheet.specs.declared.EntryFound.the-variants.{Found as FoundEntry, Bad as NoEntry}
 use Rattle.sheet.specs.declared.TensorFound.the-variants.{Found as FoundTensor, Bad as NoTensor}
 use Rattle.sheet.specs.declared.Counted.the-variants.{Counts, Bad as NoCount}
+use Rattle.sheet.specs.Steps.{stepOf, shapeOf, countOf}
 
 -- a refusal
 pub record Refusal {A : Type 0} (r : Answer A) : Type 0 where

@@ -1,2 +1,3 @@
 pub mod Format
 pub mod Sheet
+pub mod Steps

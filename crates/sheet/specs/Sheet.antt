@@ -101,16 +101,6 @@ sheetOf s =
 
 -- What the code's answers say.
 
--- where an entry's body begins, after its tag, and where it ends, which is inside the sheet
-abbrev pub openedOf : ℕ → Answer ℕ → Opened
-openedOf len (accepted e q) = if leb e len then Body q e else NotOpened
-openedOf len (refused n p) = NotOpened
-
--- the place after what could be read, or that it could not
-abbrev pub stepOf : {A : Type 0} → Answer A → Stepped
-stepOf (accepted a q) = To q
-stepOf (refused n p) = Bad
-
 -- a text's place, and the place after it
 abbrev pub spanOf : Answer Text → TextFound
 spanOf (accepted a q) = FoundText (a .span) q
@@ -121,20 +111,10 @@ abbrev pub entryOf : Answer SheetEntry → EntryFound
 entryOf (accepted e q) = FoundEntry (e .parts) q
 entryOf (refused n p) = NoEntry
 
--- a shape, and the place after it
-abbrev pub shapeOf : Answer Shape → ShapeFound
-shapeOf (accepted x q) = FoundShape x q
-shapeOf (refused n p) = NoShape
-
 -- the parts of a tensor, and the place after it
 abbrev pub tensorOf : Answer SheetTensor → TensorFound
 tensorOf (accepted t q) = FoundTensor (t .parts) q
 tensorOf (refused n p) = NoTensor
-
--- how many there are, and the place after them; or the first that is bad
-abbrev pub countOf : {A : Type 0} → Answer (List A) → Counted
-countOf (accepted l q) = Counts (length l) q
-countOf (refused n p) = BadEntry p
 
 -- how many metadata entries and how many tensors there are, and where the tensors begin; or the
 -- first entry that is bad

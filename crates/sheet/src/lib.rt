@@ -25,6 +25,7 @@ ghost use Rattle.values.specs.Contents.{insideOf};
 ghost use Rattle.sheet.specs.declared.EntryFound.the-variants.{Found};
 ghost use Rattle.sheet.specs.Format as format;
 ghost use Rattle.sheet.specs.Sheet as sheet;
+ghost use Rattle.sheet.specs.Steps.{countOf, openedOf, shapeOf, stepOf};
 
 // The place after what was passed, or that it is not well formed.
 pub enum Stepped {
@@ -153,7 +154,7 @@ fn scalar_at(s: &[u8], at: usize, t: u64, width: Width) -> Number
 
 // An item of an array, passed.
 fn pass_item(s: &[u8], at: usize, t: u64) -> Stepped
-    ensures { λ r. ⌜ r ≡ sheet.stepOf (run (format.item depth t) (now (s .entry)) at) ⌝ }
+    ensures { λ r. ⌜ r ≡ stepOf (run (format.item depth t) (now (s .entry)) at) ⌝ }
 {
     match scalars::scalar_width(t) {
         ScalarWidth::Of { width } => match scalar_at(s, at, t, width) {
@@ -174,7 +175,7 @@ fn pass_item(s: &[u8], at: usize, t: u64) -> Stepped
 
 // Passes n items of the type t.
 fn pass_items(s: &[u8], at: usize, n: u64, t: u64) -> Stepped
-    ensures { λ r. ⌜ r ≡ sheet.stepOf (run (times n (format.item depth t)) (now (s .entry)) at) ⌝ }
+    ensures { λ r. ⌜ r ≡ stepOf (run (times n (format.item depth t)) (now (s .entry)) at) ⌝ }
 {
     let mut from = at;
     let mut i: u64 = 0;
@@ -194,7 +195,7 @@ fn pass_items(s: &[u8], at: usize, n: u64, t: u64) -> Stepped
 
 // An array, passed: its items are no arrays.
 fn pass_array(s: &[u8], at: usize) -> Stepped
-    ensures { λ r. ⌜ r ≡ sheet.stepOf (run (format.array depth (format.item depth)) (now (s .entry)) at) ⌝ }
+    ensures { λ r. ⌜ r ≡ stepOf (run (format.array depth (format.item depth)) (now (s .entry)) at) ⌝ }
 {
     match fields::number_at(s, at, Width::One, true) {
         Number::Refused { why: _, place: _ } => Stepped::Bad,
@@ -218,7 +219,7 @@ fn pass_array(s: &[u8], at: usize) -> Stepped
 
 // The value of the type t of an entry that ends at end, passed.
 fn pass_value(s: &[u8], at: usize, end: usize, t: u64) -> Stepped
-    ensures { λ r. ⌜ r ≡ sheet.stepOf (run (format.value end t) (now (s .entry)) at) ⌝ }
+    ensures { λ r. ⌜ r ≡ stepOf (run (format.value end t) (now (s .entry)) at) ⌝ }
 {
     match scalars::scalar_width(t) {
         ScalarWidth::Of { width } => match scalar_at(s, at, t, width) {
@@ -243,7 +244,7 @@ fn pass_value(s: &[u8], at: usize, end: usize, t: u64) -> Stepped
 
 // Where the body of an entry of that tag begins and ends.
 fn body_at(s: &[u8], at: usize, tag: u64) -> Opened
-    ensures { λ r. ⌜ r ≡ sheet.openedOf (length (now (s .entry))) (run (format.opening tag) (now (s .entry)) at) ⌝ }
+    ensures { λ r. ⌜ r ≡ openedOf (length (now (s .entry))) (run (format.opening tag) (now (s .entry)) at) ⌝ }
 {
     let Number::Value { value: n, next: p } = fields::number_at(s, at, Width::Four, true) else {
         return Opened::Bad;
@@ -332,7 +333,7 @@ pub fn known_entry(s: &[u8], at: usize) -> KnownEntry
 
 // The count of dimensions, and four lengths.
 fn shape_at(s: &[u8], at: usize) -> ShapeFound
-    ensures { λ r. ⌜ r ≡ sheet.shapeOf (run format.shape (now (s .entry)) at) ⌝ }
+    ensures { λ r. ⌜ r ≡ shapeOf (run format.shape (now (s .entry)) at) ⌝ }
 {
     let dialect = Dialect {
         version: 3,
@@ -442,7 +443,7 @@ fn is_metadata(s: &[u8], at: usize) -> bool
 
 // Counts the metadata entries, which begin after the version byte.
 fn check_entries(s: &[u8]) -> Counted
-    ensures { λ r. ⌜ r ≡ sheet.countOf (sheet.entriesFrom (now (s .entry)) 1) ⌝ }
+    ensures { λ r. ⌜ r ≡ countOf (sheet.entriesFrom (now (s .entry)) 1) ⌝ }
 {
     let mut from: usize = 1;
     let mut last = Before::None;
@@ -465,7 +466,7 @@ fn check_entries(s: &[u8]) -> Counted
 
 // Counts the tensors, up to the sheet's end.
 fn check_tensors(s: &[u8], at: usize) -> Counted
-    ensures { λ r. ⌜ r ≡ sheet.countOf (sheet.tensorsFrom (now (s .entry)) at) ⌝ }
+    ensures { λ r. ⌜ r ≡ countOf (sheet.tensorsFrom (now (s .entry)) at) ⌝ }
 {
     let mut from = at;
     let mut count: usize = 0;

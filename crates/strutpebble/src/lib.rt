@@ -1,7 +1,7 @@
 // The functions that C and other languages link: numbers and slices only, thin over the proved
 // crates. include/strutpebble.h declares them.
 //
-// Each returns 0, or a number that says why there is no answer: a refusal's, or a TOLD_ constant of
+// Each returns 0, or a number that says why there is no answer: a refusal's, or a STATUS_ constant of
 // lookup or of words. Each writes all eight words of the answer that it was lent: the answer's own,
 // or of a refusal its place and seven zeros.
 use reading::Limits;
@@ -108,8 +108,8 @@ pub extern "C" fn sp_find_string(prefix: &[u8], key: &[u8], answer: &mut [u64; 8
 {
     let found = lookup::find(prefix, key);
     *answer = words::string_words(found);
-    let told = lookup::string_status(found);
-    told[0]
+    let status = lookup::string_status(found);
+    status[0]
 }
 
 // The model's family, the string of "general.architecture", as sp_find_string answers it.
@@ -128,12 +128,12 @@ pub extern "C" fn sp_file_type(prefix: &[u8], answer: &mut [u64; 8]) -> u64
     ensures { λ r. ⌜ r ≡ typeNumber (fileTypeIn (lookup fileTypeKey (now (prefix .entry)))) ⌝ }
     ensures { λ r. ⌜ now (answer .exit) ≡ typeWords (fileTypeIn (lookup fileTypeKey (now (prefix .entry)))) ⌝ }
 {
-    let told = lookup::file_type(prefix);
-    *answer = words::type_words(told);
-    words::type_number(told)
+    let read = lookup::file_type(prefix);
+    *answer = words::type_words(read);
+    words::type_number(read)
 }
 
-// How a file is told: its version, and whether the big end comes first, which any number but 0
+// How a file is written: its version, and whether it is big-endian, which any number but 0
 // says.
 fn dialect_of(version: u32, big: u32) -> Dialect
     ensures { λ r. ⌜ r ≡ dialectOf version big ⌝ }

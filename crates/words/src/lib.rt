@@ -10,7 +10,7 @@ ghost use Rattle.header.specs.Answers.{asHeader};
 ghost use Rattle.words.specs.Words as words;
 
 // Beside refusals' numbers and those of a string question: the file's type is none of the table.
-pub const TOLD_UNKNOWN: u64 = 102;
+pub const STATUS_UNKNOWN: u64 = 102;
 
 // A word and seven zeros.
 pub fn one_word(word: u64) -> [u64; 8]
@@ -74,7 +74,7 @@ pub fn entry_number(found: Lookup) -> u64
 {
     match found {
         Lookup::Found { entry: _ } => 0,
-        Lookup::Absent => lookup::TOLD_ABSENT,
+        Lookup::Absent => lookup::STATUS_ABSENT,
         Lookup::Refused { why, place: _ } => why,
     }
 }
@@ -112,21 +112,21 @@ pub fn string_words(found: Lookup) -> [u64; 8]
 }
 
 // The number of a file type's answer.
-pub fn type_number(told: FileTypeRead) -> u64
-    ensures { λ r. ⌜ r ≡ words.typeNumber told ⌝ }
+pub fn type_number(read: FileTypeRead) -> u64
+    ensures { λ r. ⌜ r ≡ words.typeNumber read ⌝ }
 {
-    match told {
+    match read {
         FileTypeRead::Known { number: _ } => 0,
-        FileTypeRead::Unknown => TOLD_UNKNOWN,
+        FileTypeRead::Unknown => STATUS_UNKNOWN,
         FileTypeRead::Refused { why, place: _ } => why,
     }
 }
 
 // The words of a file type's answer.
-pub fn type_words(told: FileTypeRead) -> [u64; 8]
-    ensures { λ r. ⌜ r ≡ words.typeWords told ⌝ }
+pub fn type_words(read: FileTypeRead) -> [u64; 8]
+    ensures { λ r. ⌜ r ≡ words.typeWords read ⌝ }
 {
-    match told {
+    match read {
         FileTypeRead::Known { number } => one_word(number),
         FileTypeRead::Unknown => one_word(0),
         FileTypeRead::Refused { why: _, place } => one_word(place as u64),

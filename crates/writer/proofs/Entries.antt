@@ -17,18 +17,20 @@ use Rattle.reading.proofs.Repetition.{times-accepted, times-got, times-ends}
 use Rattle.values.specs.Contents.{EntryContent, typeBytes, textBytes, valueBytes, entryBytes, insideOf}
 use Rattle.values.specs.Format.{sizeWidth, depth, alignmentKey}
 use Rattle.values.specs.declared.Dialect.{Dialect}
-use Rattle.plan.specs.Header.{contentRead, inserted, entryIn, alignmentEntry}
+use Rattle.plan.specs.Header.{inserted, entryIn, alignmentEntry}
 use Rattle.sheet.specs.Format.{SheetEntry, value, metadata}
-use Rattle.sheet.specs.Sheet.{stepOf, entryOf}
+use Rattle.sheet.specs.Sheet.{entryOf}
 use Rattle.sheet.specs.declared.EntryParts.{EntryParts}
 use Rattle.sheet.specs.declared.EntryFound.the-variants.{Found}
 use Rattle.sheet.specs.declared.Stepped.the-variants.{To}
 use Rattle.sheet.proofs.ManyEntries.{key-stands}
 use Rattle.sheet.proofs.PartsFound.{entry-told}
 use Rattle.sheet.proofs.Steps.{entry-yes}
-use Rattle.writer.specs.Output.{comingBefore}
 use Rattle.writer.proofs.RowsWritten.{rows-append, Split, split}
 use Rattle.plan.proofs.Drafts.{added-length}
+use Rattle.plan.specs.Steps.{contentRead}
+use Rattle.sheet.specs.Steps.{stepOf}
+use Rattle.writer.specs.Steps.{comingBefore}
 
 -- the entry at a place whose parts are x, and which ends at q
 pub record EntryThere (s : List ℕ) (from : ℕ) (x : EntryParts) (q : ℕ) : Type 0 where

@@ -38,7 +38,8 @@ use Rattle.header.specs.Format.{isAlignment}
 use Rattle.plan.specs.Steps.{aligned}
 use Rattle.plan.proofs.Sizes.{start-length}
 use Rattle.plan.proofs.Drafts.{entries-count, padded-not-below}
-use Rattle.writer.specs.Output.{headerFor, leftBy, entryCount}
+use Rattle.writer.specs.Output.{headerFor, leftBy}
+use Rattle.writer.specs.Steps.{entryCount}
 
 -- what a plan tells of the sheet for which it was made
 pub record PlannedBy (k : Dialect) (a room : ℕ) (s : List ℕ) (plan : Plan) : Type 0 where

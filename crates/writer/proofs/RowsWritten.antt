@@ -14,10 +14,10 @@ use Rattle.reading.specs.Each.{each, times}
 use Rattle.reading.specs.Reading.{Reading, done, Answer, accepted, refused, run, isAccepted}
 use Rattle.reading.proofs.RunLaws.{goes-on, bind-inv}
 use Rattle.reading.proofs.Repetition.{times-accepted, times-got, times-ends, times-never}
-use Rattle.sheet.specs.Sheet.{stepOf}
 use Rattle.sheet.specs.declared.Stepped.the-variants.{To}
 use Rattle.sheet.proofs.Steps.{steps-on}
 use Rattle.writer.proofs.Loops.{Part, part-start, part-turn, part-end, part-room}
+use Rattle.sheet.specs.Steps.{stepOf}
 
 -- what was written, by another name
 pub wrote-as : {l m old out : List ℕ} {n : ℕ} → l ≡ m → Wrote l old out n → Wrote m old out n

@@ -31,8 +31,8 @@ use Rattle.plan.specs.Header.{pieceOf, contentAt, laidWith, laidFrom}
 use Rattle.plan.specs.Plan.{laidOf}
 use Rattle.plan.proofs.Sizes.{tensor-length}
 use Rattle.plan.proofs.PlanTurns.{laid-ahead}
-use Rattle.writer.specs.Output.{shapeSize}
 use Rattle.writer.proofs.Loops.{Part, part-start, part-turn, part-end, part-room}
+use Rattle.writer.specs.Steps.{shapeSize}
 
 -- the name of a tensor is what stands at its place
 name-stands : (s : List ℕ) (p : ℕ) {t : SheetTensor} {q : ℕ} → accepted t q ≡ run tensor s p → insideOf s (t .parts .name) ≡ t .name

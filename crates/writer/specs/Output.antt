@@ -32,25 +32,3 @@ headerFor k a s = headerBytes k (headerContents a (recordsIn (sheetOf s)))
 abbrev pub leftBy : Planned → List ℕ → List ℕ → List ℕ
 leftBy (Fine plan) bytes old = bytes ++ replicate (plan .start - plan .end) 0 ++ drop (plan .start) old
 leftBy (Refused n p) bytes old = old
-
--- how many entries a header has, the added one included
-abbrev pub entryCount : Draft → ℕ
-entryCount d = if d .adds then d .entries + 1 else d .entries
-
--- the bytes of the length at the place i of n, and of a whole shape of n dimensions
-abbrev pub lengthSize : ℕ → ℕ → ℕ
-lengthSize n i = if ltb i n then 8 else 0
-
--- the bytes of a whole shape of n dimensions
-abbrev pub shapeSize : ℕ → ℕ
-shapeSize n = 4 + lengthSize n 0 + lengthSize n 1 + lengthSize n 2 + lengthSize n 3
-
--- a number that was read; of none, 0
-abbrev pub numberIn : Answer ℕ → ℕ
-numberIn (accepted v q) = v
-numberIn (refused n p) = 0
-
--- how many entries stand before the place of the alignment's own
-abbrev pub comingBefore : List SheetEntry → ℕ
-comingBefore [] = 0
-comingBefore (e ∷ es) = if before alignmentKey (e .content .key) then 0 else suc (comingBefore es)

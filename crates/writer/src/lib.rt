@@ -36,12 +36,15 @@ ghost use Rattle.start.specs.Contents.{startBytes};
 ghost use Rattle.header.specs.Contents.{headerBytes};
 ghost use Rattle.sheet.specs.Format as format;
 ghost use Rattle.sheet.specs.declared.Stepped.the-variants.{To};
-ghost use Rattle.sheet.specs.Sheet.{sheetOf, stepOf};
+ghost use Rattle.sheet.specs.Sheet.{sheetOf};
 ghost use Rattle.plan.specs.declared.Planned.the-variants.{Fine};
 ghost use Rattle.plan.specs.declared.LaidOut.the-variants.{Fits};
 ghost use Rattle.plan.specs.Header as header_of;
 ghost use Rattle.plan.specs.Plan as plan_of;
 ghost use Rattle.writer.specs.Output as output;
+ghost use Rattle.plan.specs.Steps.{contentRead};
+ghost use Rattle.writer.specs.Steps.{comingBefore, entryCount, lengthSize, numberIn, shapeSize};
+ghost use Rattle.sheet.specs.Steps.{stepOf};
 
 // Where the header ends and where its data starts, or the refusal.
 pub enum HeaderWritten {
@@ -100,7 +103,7 @@ fn write_scalar(
     requires { ⌜ isAccepted (run (format.scalar t) (now s) at) ≡ true ⌝ }
     requires { ⌜ scalarWidth t ≤ length (now out) ⌝ }
     ensures { λ r. ⌜ r ≡ scalarWidth t ⌝ }
-    ensures { λ r. ⌜ Wrote (bytesOf (dialect .big) (scalarWidth t) (output.numberIn (run (format.scalar t) (now (s .entry)) at))) (now (out .entry)) (now (out .exit)) r ⌝ }
+    ensures { λ r. ⌜ Wrote (bytesOf (dialect .big) (scalarWidth t) (numberIn (run (format.scalar t) (now (s .entry)) at))) (now (out .entry)) (now (out .exit)) r ⌝ }
 {
     match fields::number_at(s, at, width, true) {
         Number::Refused { why: _, place: _ } => 0,
@@ -111,8 +114,8 @@ fn write_scalar(
 // An item of an array, which is there.
 fn write_item(out: &mut [u8], s: &[u8], at: usize, t: u64, dialect: Dialect) -> Copied
     requires { ⌜ isAccepted (run (format.item depth t) (now s) at) ≡ true ⌝ }
-    requires { ⌜ length (contents.valueBytes depth dialect (header_of.contentRead (run (format.item depth t) (now s) at))) ≤ length (now out) ⌝ }
-    ensures { λ r. ⌜ Wrote (contents.valueBytes depth dialect (header_of.contentRead (run (format.item depth t) (now (s .entry)) at))) (now (out .entry)) (now (out .exit)) (r .written) ⌝ }
+    requires { ⌜ length (contents.valueBytes depth dialect (contentRead (run (format.item depth t) (now s) at))) ≤ length (now out) ⌝ }
+    ensures { λ r. ⌜ Wrote (contents.valueBytes depth dialect (contentRead (run (format.item depth t) (now (s .entry)) at))) (now (out .entry)) (now (out .exit)) (r .written) ⌝ }
     ensures { λ r. ⌜ To (r .next) ≡ stepOf (run (format.item depth t) (now (s .entry)) at) ⌝ }
 {
     match scalars::scalar_width(t) {
@@ -157,8 +160,8 @@ fn write_items(out: &mut [u8], s: &[u8], at: usize, n: u64, t: u64, dialect: Dia
 // An array, which is there: its item type, its count and its items.
 fn write_array_payload(out: &mut [u8], s: &[u8], at: usize, dialect: Dialect) -> usize
     requires { ⌜ isAccepted (run (format.array depth (format.item depth)) (now s) at) ≡ true ⌝ }
-    requires { ⌜ length (contents.valueBytes (suc depth) dialect (header_of.contentRead (run (format.array depth (format.item depth)) (now s) at))) ≤ length (now out) ⌝ }
-    ensures { λ r. ⌜ Wrote (contents.valueBytes (suc depth) dialect (header_of.contentRead (run (format.array depth (format.item depth)) (now (s .entry)) at))) (now (out .entry)) (now (out .exit)) r ⌝ }
+    requires { ⌜ length (contents.valueBytes (suc depth) dialect (contentRead (run (format.array depth (format.item depth)) (now s) at))) ≤ length (now out) ⌝ }
+    ensures { λ r. ⌜ Wrote (contents.valueBytes (suc depth) dialect (contentRead (run (format.array depth (format.item depth)) (now (s .entry)) at))) (now (out .entry)) (now (out .exit)) r ⌝ }
 {
     let Number::Value { value: t, next: p } = fields::number_at(s, at, Width::One, true) else {
         return 0;
@@ -181,8 +184,8 @@ fn write_metadata_value(
     dialect: Dialect,
 ) -> usize
     requires { ⌜ To end ≡ stepOf (run (format.value end form) (now s) at) ⌝ }
-    requires { ⌜ length (contents.valueBytes (suc depth) dialect (header_of.contentRead (run (format.value end form) (now s) at))) ≤ length (now out) ⌝ }
-    ensures { λ r. ⌜ Wrote (contents.valueBytes (suc depth) dialect (header_of.contentRead (run (format.value end form) (now (s .entry)) at))) (now (out .entry)) (now (out .exit)) r ⌝ }
+    requires { ⌜ length (contents.valueBytes (suc depth) dialect (contentRead (run (format.value end form) (now s) at))) ≤ length (now out) ⌝ }
+    ensures { λ r. ⌜ Wrote (contents.valueBytes (suc depth) dialect (contentRead (run (format.value end form) (now (s .entry)) at))) (now (out .entry)) (now (out .exit)) r ⌝ }
 {
     match scalars::scalar_width(form) {
         ScalarWidth::Of { width } => write_scalar(out, s, at, form, width, dialect),
@@ -206,8 +209,8 @@ fn write_entry(
     dialect: Dialect,
 ) -> usize
     requires { ⌜ To end ≡ stepOf (run (format.value end form) (now s) at) ⌝ }
-    requires { ⌜ sizeWidth dialect + length (now key) + 4 + length (contents.valueBytes (suc depth) dialect (header_of.contentRead (run (format.value end form) (now s) at))) ≤ length (now out) ⌝ }
-    ensures { λ r. ⌜ Wrote (contents.textBytes dialect (now (key .entry)) ++ contents.typeBytes dialect form ++ contents.valueBytes (suc depth) dialect (header_of.contentRead (run (format.value end form) (now (s .entry)) at))) (now (out .entry)) (now (out .exit)) r ⌝ }
+    requires { ⌜ sizeWidth dialect + length (now key) + 4 + length (contents.valueBytes (suc depth) dialect (contentRead (run (format.value end form) (now s) at))) ≤ length (now out) ⌝ }
+    ensures { λ r. ⌜ Wrote (contents.textBytes dialect (now (key .entry)) ++ contents.typeBytes dialect form ++ contents.valueBytes (suc depth) dialect (contentRead (run (format.value end form) (now (s .entry)) at))) (now (out .entry)) (now (out .exit)) r ⌝ }
 {
     let a = write_string(out, key, dialect);
     let b = a + write_type(&mut out[a..], form, dialect);
@@ -261,7 +264,7 @@ fn write_alignment(out: &mut [u8], alignment: u64, dialect: Dialect) -> usize
 // keys.
 fn entries_before(s: &[u8], n: usize) -> usize
     requires { ⌜ isAccepted (run (times n format.metadata) (now s) 1) ≡ true ⌝ }
-    ensures { λ r. ⌜ r ≡ output.comingBefore (got (run (times n format.metadata) (now (s .entry)) 1)) ⌝ }
+    ensures { λ r. ⌜ r ≡ comingBefore (got (run (times n format.metadata) (now (s .entry)) 1)) ⌝ }
 {
     let mut from: usize = 1;
     let mut i: usize = 0;
@@ -304,8 +307,8 @@ fn write_metadata_section(
 
 // The length at the place i of a shape of n dimensions: beyond those nothing is written.
 fn write_length(out: &mut [u8], n: u64, i: u64, v: u64, dialect: Dialect) -> usize
-    requires { ⌜ output.lengthSize n i ≤ length (now out) ⌝ }
-    ensures { λ r. ⌜ r ≡ output.lengthSize n i ⌝ }
+    requires { ⌜ lengthSize n i ≤ length (now out) ⌝ }
+    ensures { λ r. ⌜ r ≡ lengthSize n i ⌝ }
     ensures { λ r. ⌜ Wrote (lengthBytes dialect n i v) (now (out .entry)) (now (out .exit)) r ⌝ }
 {
     if i < n {
@@ -325,8 +328,8 @@ fn write_two_lengths(
     dialect: Dialect,
 ) -> usize
     requires { ⌜ i < 4 ⌝ }
-    requires { ⌜ output.lengthSize n i + output.lengthSize n (i + 1) ≤ length (now out) ⌝ }
-    ensures { λ r. ⌜ r ≡ output.lengthSize n i + output.lengthSize n (i + 1) ⌝ }
+    requires { ⌜ lengthSize n i + lengthSize n (i + 1) ≤ length (now out) ⌝ }
+    ensures { λ r. ⌜ r ≡ lengthSize n i + lengthSize n (i + 1) ⌝ }
     ensures { λ r. ⌜ Wrote (lengthBytes dialect n i first ++ lengthBytes dialect n (i + 1) second) (now (out .entry)) (now (out .exit)) r ⌝ }
 {
     let a = write_length(out, n, i, first, dialect);
@@ -335,8 +338,8 @@ fn write_two_lengths(
 
 // The count of dimensions, and that many lengths.
 fn write_shape(out: &mut [u8], x: Shape, dialect: Dialect) -> usize
-    requires { ⌜ output.shapeSize (x .dimensions) ≤ length (now out) ⌝ }
-    ensures { λ r. ⌜ r ≡ output.shapeSize (x .dimensions) ⌝ }
+    requires { ⌜ shapeSize (x .dimensions) ≤ length (now out) ⌝ }
+    ensures { λ r. ⌜ r ≡ shapeSize (x .dimensions) ⌝ }
     ensures { λ r. ⌜ Wrote (shapeBytes dialect x) (now (out .entry)) (now (out .exit)) r ⌝ }
 {
     let n = x.dimensions;
@@ -364,8 +367,8 @@ fn write_tensor_info(
     offset: u64,
     dialect: Dialect,
 ) -> usize
-    requires { ⌜ sizeWidth dialect + length (now name) + output.shapeSize (shape .dimensions) + 12 ≤ length (now out) ⌝ }
-    ensures { λ r. ⌜ r ≡ sizeWidth dialect + length (now (name .entry)) + output.shapeSize (shape .dimensions) + 12 ⌝ }
+    requires { ⌜ sizeWidth dialect + length (now name) + shapeSize (shape .dimensions) + 12 ≤ length (now out) ⌝ }
+    ensures { λ r. ⌜ r ≡ sizeWidth dialect + length (now (name .entry)) + shapeSize (shape .dimensions) + 12 ⌝ }
     ensures { λ r. ⌜ Wrote (tensorBytes dialect (contentOf (now (name .entry)) shape kind offset)) (now (out .entry)) (now (out .exit)) r ⌝ }
 {
     let a = write_string(out, name, dialect);
@@ -381,8 +384,8 @@ fn write_laid_tensor(
     offset: u64,
     dialect: Dialect,
 ) -> usize
-    requires { ⌜ sizeWidth dialect + length (contents.insideOf (now s) (parts .name)) + output.shapeSize (parts .shape .dimensions) + 12 ≤ length (now out) ⌝ }
-    ensures { λ r. ⌜ r ≡ sizeWidth dialect + length (contents.insideOf (now (s .entry)) (parts .name)) + output.shapeSize (parts .shape .dimensions) + 12 ⌝ }
+    requires { ⌜ sizeWidth dialect + length (contents.insideOf (now s) (parts .name)) + shapeSize (parts .shape .dimensions) + 12 ≤ length (now out) ⌝ }
+    ensures { λ r. ⌜ r ≡ sizeWidth dialect + length (contents.insideOf (now (s .entry)) (parts .name)) + shapeSize (parts .shape .dimensions) + 12 ⌝ }
     ensures { λ r. ⌜ Wrote (tensorBytes dialect (contentOf (contents.insideOf (now (s .entry)) (parts .name)) (parts .shape) (parts .kind) offset)) (now (out .entry)) (now (out .exit)) r ⌝ }
 {
     let name = parts.name;
@@ -459,7 +462,7 @@ fn write_start(out: &mut [u8], tensors: u64, entries: u64, dialect: Dialect) -> 
 // How many entries the header has, the added one included.
 fn entry_count(draft: Draft) -> u64
     requires { ⌜ draft .entries < 18446744073709551615 ⌝ }
-    ensures { λ r. ⌜ r ≡ output.entryCount draft ⌝ }
+    ensures { λ r. ⌜ r ≡ entryCount draft ⌝ }
 {
     if draft.adds {
         draft.entries as u64 + 1

@@ -1,4 +1,4 @@
--- `header::is_alignment_key` meets its contract: its two tests are the definition's. Assumes
+-- `values::is_alignment_key` meets its contract: its two tests are the definition's. Assumes
 -- nothing.
 use borrow.Author.Tests.{eq-eqb, ne-eqb}
 use Rattle.header.proofs.is_alignment.Statement.{statement}

@@ -8,11 +8,11 @@ use native.Mathlib.Nat.{sub-zero}
 use Rattle.reading.specs.Reading.{run, isAccepted}
 use Rattle.reading.specs.Each.{times}
 use Rattle.sheet.specs.Format.{metadata}
-use Rattle.sheet.specs.Sheet.{stepOf}
 use Rattle.plan.specs.Steps.{takenFrom}
 use Rattle.plan.proofs.PlanTurns.{entriesLength, entry-here, entry-rest, entry-value, entry-taken, entries-ends}
 use Rattle.plan.proofs.entries_room.Statement.{statement}
 use Rattle.plan.proofs.entries_room.Tie as tie
+use Rattle.sheet.specs.Steps.{stepOf}
 
 abbrev Inv-loop : tie.InvT-loop
 Inv-loop s n dialect left₀ from₀ i₀ left from i =

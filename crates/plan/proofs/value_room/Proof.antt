@@ -2,7 +2,6 @@
 -- array is measured by itself. Assumes nothing.
 use borrow.Author.Needs.{needs}
 use mathlib.Core.Path.{ap, _∙_}
-use Rattle.sheet.specs.Sheet.{stepOf}
 use Rattle.sheet.proofs.PartsFound.{onward}
 use Rattle.sheet.proofs.Steps.{step-yes}
 use Rattle.plan.specs.Steps.{takenFrom}
@@ -10,6 +9,7 @@ use Rattle.plan.proofs.Rooms.{taken-twice}
 use Rattle.plan.proofs.Measures.{text-size, scalar-size, value-is-array}
 use Rattle.plan.proofs.value_room.Statement.{statement}
 use Rattle.plan.proofs.value_room.Tie as tie
+use Rattle.sheet.specs.Steps.{stepOf}
 
 array-room-requires : tie.Need-array-room-requires
 array-room-requires c κs = c .before .before .pre ∙ ap stepOf (value-is-array _ _ _ _ (c .if1 .taken))

@@ -10,12 +10,13 @@ use lib.ListN.{length}
 use denote.Ref.{now}
 use Rattle.reading.specs.Reading.{run}
 use Rattle.sheet.specs.Format.{SheetTensor, tensor}
-use Rattle.sheet.specs.Sheet.{asMany, goesOn, tensorsFrom, countOf}
+use Rattle.sheet.specs.Sheet.{asMany, goesOn, tensorsFrom}
 use Rattle.sheet.proofs.ManyEntries.{added, many-starts, many-ends, many-stops, many-more}
 use Rattle.sheet.proofs.PartsFound.{tensor-ends}
 use Rattle.sheet.proofs.Steps.{Shows, tensor-no, tensor-yes}
 use Rattle.sheet.proofs.check_tensors.Statement.{statement}
 use Rattle.sheet.proofs.check_tensors.Tie as tie
+use Rattle.sheet.specs.Steps.{countOf}
 
 abbrev Inv-loop : tie.InvT-loop
 Inv-loop s at from₀ count₀ from count =

@@ -11,10 +11,10 @@ use Rattle.reading.specs.Each.{times}
 use Rattle.reading.proofs.Repetition.{times-ends}
 use Rattle.values.specs.Format.{depth}
 use Rattle.sheet.specs.Format.{item}
-use Rattle.sheet.specs.Sheet.{stepOf}
 use Rattle.sheet.proofs.Steps.{steps-on, steps-not}
 use Rattle.sheet.proofs.pass_items.Statement.{statement}
 use Rattle.sheet.proofs.pass_items.Tie as tie
+use Rattle.sheet.specs.Steps.{stepOf}
 
 abbrev Inv-loop : tie.InvT-loop
 Inv-loop s at n t from₀ i₀ from i = (i ≤ n) × (stepOf (run (times n (item depth t)) s at) ≡ stepOf (run (times (n - i) (item depth t)) s from))

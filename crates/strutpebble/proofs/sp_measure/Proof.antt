@@ -1,4 +1,4 @@
--- `strutpebble::sp_measure` meets its contract: the answer of `strutpebble::measure`, told as
+-- `strutpebble::sp_measure` meets its contract: the answer of `header::measure`, told as
 -- numbers. Assumes nothing.
 use borrow.Author.Needs.{needs}
 use mathlib.Core.Path.{ap, _∙_}

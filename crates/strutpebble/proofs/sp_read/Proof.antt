@@ -1,4 +1,4 @@
--- `strutpebble::sp_read` meets its contract: `strutpebble::read`'s answer, told as numbers. Assumes
+-- `strutpebble::sp_read` meets its contract: `header::read`'s answer, told as numbers. Assumes
 -- nothing.
 use borrow.Author.Needs.{needs}
 use mathlib.Core.Path.{ap, _∙_}

@@ -1,4 +1,4 @@
--- `tensor_records::read_within` meets its contract: `tensor_records::read` fills the part that it
+-- `tensor_records::read_within` meets its contract: `header::read` fills the part that it
 -- is lent, and so the table (`part-read`). Assumes nothing.
 use borrow.Author.Needs.{needs}
 use mathlib.Core.Path.{_∙_}

@@ -8,12 +8,12 @@ use denote.Ref.{now}
 use Rattle.reading.specs.Reading.{run, isAccepted}
 use Rattle.values.specs.Contents.{valueBytes}
 use Rattle.values.specs.Format.{depth}
-use Rattle.plan.specs.Header.{contentRead}
 use Rattle.sheet.specs.Format.{item}
 use Rattle.sheet.proofs.Steps.{step-yes}
 use Rattle.writer.proofs.RowsWritten.{Next, Left, left-start, left-next, left-turn, left-end}
 use Rattle.writer.proofs.write_items.Statement.{statement}
 use Rattle.writer.proofs.write_items.Tie as tie
+use Rattle.plan.specs.Steps.{contentRead}
 
 abbrev Inv-loop : tie.InvT-loop
 Inv-loop out₀ s at n t dialect from₀ done₀ i₀ out from done i = Left (item depth t) (valueBytes depth dialect) s at n out₀ out from done i

@@ -11,13 +11,13 @@ use Rattle.fields.specs.Value.{widthOf}
 use Rattle.scalars.specs.Scalars.{asWidth, scalarWidth}
 use Rattle.values.specs.Contents.{valueBytes}
 use Rattle.values.specs.Format.{depth}
-use Rattle.plan.specs.Header.{contentRead}
 use Rattle.sheet.specs.Format.{array, item, value}
 use Rattle.sheet.proofs.SheetItems.{has-width, value-scalar, value-array}
 use Rattle.writer.proofs.RowsWritten.{wrote-as}
 use Rattle.writer.proofs.ValuesWritten.{step-there, ScalarSaid, scalar-said, ValueText, value-said}
 use Rattle.writer.proofs.write_metadata_value.Statement.{statement}
 use Rattle.writer.proofs.write_metadata_value.Tie as tie
+use Rattle.plan.specs.Steps.{contentRead}
 
 -- the width of the type, and the scalar that is there
 wide : (c : tie.After-width) → widthOf (c .width .given .0 .0) ≡ scalarWidth (c .before .before .before .before .before .args .form)

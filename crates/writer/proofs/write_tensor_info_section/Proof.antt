@@ -17,10 +17,10 @@ use Rattle.tensors.specs.Contents.{tensorBytes}
 use Rattle.sheet.specs.Format.{SheetTensor, tensor}
 use Rattle.sheet.proofs.Steps.{Shows, tensor-no, tensor-yes}
 use Rattle.plan.specs.Header.{laidFrom}
-use Rattle.writer.specs.Output.{shapeSize}
 use Rattle.writer.proofs.Tensors.{Going, going-start, going-none, going-end, going-within, never-refused, going-room, going-on}
 use Rattle.writer.proofs.write_tensor_info_section.Statement.{statement}
 use Rattle.writer.proofs.write_tensor_info_section.Tie as tie
+use Rattle.writer.specs.Steps.{shapeSize}
 
 abbrev Inv-loop : tie.InvT-loop
 Inv-loop out₀ s first m alignment dialect from₀ laid₀ done₀ i₀ out from laid done i =
