@@ -13,6 +13,7 @@ use Rattle.reading.specs.Each.{fold}
 use Rattle.fields.specs.Order.{before}
 use Rattle.values.specs.Format.{isWord, alignmentKey}
 use Rattle.values.specs.Contents.{aScalar}
+use Rattle.scalars.specs.declared.Natural.the-variants.{Number}
 use Rattle.header.specs.Format.{usable, isAlignment}
 use Rattle.header.specs.Contents.{contentAlignment, latestContent, alignmentIn}
 use Rattle.sheet.specs.Format.{SheetEntry}
@@ -71,13 +72,8 @@ added-said a x (e ∷ es) h = by (before alignmentKey (e .content .key)) (added-
     by false f = f
 
 -- an alignment is usable as it is
-usable-as-is : (a : ℕ) → isAlignment a ≡ true → usable a ≡ a
-usable-as-is a = by (eqb a 0) (eqb (a % 8) 0)
-  where
-    by : (b c : Bool) → (if b then false else c) ≡ true → (if b then 32 else if c then a else 32) ≡ a
-    by true c h = let z : _≡_ {A = ℕ} 0 1 = cc in absurd (omega arith)
-    by false true h = refl
-    by false false h = let z : _≡_ {A = ℕ} 0 1 = cc in absurd (omega arith)
+usable-as-is : (a : ℕ) → isAlignment a ≡ true → usable (Number a) ≡ a
+usable-as-is a h = rw h
 
 -- and so is its u32, where it is one
 small-said : (a : ℕ) → isAlignment a ≡ true → a ≤ 4294967295 → contentAlignment (aScalar 4 a) ≡ a

@@ -7,3 +7,5 @@ pub mod Offsets
 pub mod KeysAscend
 pub mod OneResult
 pub mod Known
+pub mod RowsSay
+pub mod WrittenTables
