@@ -9,3 +9,4 @@ pub mod OneResult
 pub mod Known
 pub mod RowsSay
 pub mod WrittenTables
+pub mod RoundTrip
