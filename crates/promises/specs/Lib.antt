@@ -1,4 +1,4 @@
 pub mod Back
-pub mod Known
 pub mod RowContents
 pub mod RoundTrip
+pub mod Known
