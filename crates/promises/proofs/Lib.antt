@@ -3,6 +3,9 @@ pub mod PlannedFits
 pub mod WrittenReadsBack
 pub mod Sizes
 pub mod WrittenAnswer
+pub mod RowsSay
+pub mod WrittenTables
+pub mod RoundTrip
 pub mod Offsets
 pub mod KeysAscend
 pub mod OneResult

@@ -1,3 +1,5 @@
 pub mod Back
+pub mod RowContents
+pub mod RoundTrip
 pub mod Known
 pub mod Refusals
