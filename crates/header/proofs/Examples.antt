@@ -156,6 +156,6 @@ fits-two = record {
 }
 
 pub two-back : (r : List ℕ) → seen (summaryIn (tensors3 ++ r)) (readerRun full 0 [] ([] ∷ [] ∷ []) (tensors3 ++ r))
-    ≡ accepted (record { dialect = record { version = 3; big = false }; sheet = two; alignment = 32; end = 90; start = 96 }) 90
+    ≡ accepted (record { dialect = record { version = 3; big = false }; contents = two; alignment = 32; end = 90; start = 96 }) 90
 unfolding headerBytes startBytes sizeBytes textBytes tensorBytes shapeBytes lengthBytes kindAndOffsetBytes typeBytes bytesOf little bytesOfAll
 two-back r = reader-back 0 [] ([] ∷ [] ∷ []) (record { version = 3; big = false }) two r fits-two

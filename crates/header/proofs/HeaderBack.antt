@@ -97,7 +97,7 @@ module _ (rooms : Rooms) (cap : ℕ) (k : Dialect) (c : Contents) (fits : FitsCo
 
 -- the sheet of an answer, whatever its version, byte order and places
 abbrev pub sheetIn : Answer Summary → Answer Contents
-sheetIn (accepted t q) = accepted (t .sheet) 0
+sheetIn (accepted t q) = accepted (t .contents) 0
 sheetIn (refused n p) = refused n p
 
 -- a header that was written reads back, whatever follows it

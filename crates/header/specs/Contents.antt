@@ -58,7 +58,7 @@ alignmentIn es = fold latestContent 32 es
 -- and where its data starts
 pub record Summary : Type 0 where
   pub dialect : Dialect
-  pub sheet : Contents
+  pub contents : Contents
   pub alignment : ℕ
   pub end : ℕ
   pub start : ℕ
@@ -66,7 +66,7 @@ pub record Summary : Type 0 where
 -- what is told of the header of a sheet
 abbrev pub summaryOf : Dialect → Contents → Summary
 summaryOf k c =
-    record { dialect = k; sheet = c; alignment = alignmentIn (c .entries); end = length (headerBytes k c); start = padded (alignmentIn (c .entries)) (length (headerBytes k c)) }
+    record { dialect = k; contents = c; alignment = alignmentIn (c .entries); end = length (headerBytes k c); start = padded (alignmentIn (c .entries)) (length (headerBytes k c)) }
 
 -- the version and byte order that a header tells
 abbrev pub dialectIn : Header → Dialect
@@ -82,7 +82,7 @@ contentsOf s w = record { entries = map (entryContent (dialectOf w) s) (w .entri
 
 -- what was read, summed up with what stands at its places
 abbrev pub summaryIn : List ℕ → FullHeader → Summary
-summaryIn s w = record { dialect = dialectOf w; sheet = contentsOf s w; alignment = w .head .alignment; end = w .head .end; start = w .head .start }
+summaryIn s w = record { dialect = dialectOf w; contents = contentsOf s w; alignment = w .head .alignment; end = w .head .end; start = w .head .start }
 
 -- What can be written: each number fits its field, there are rows for all records, and the start of
 -- the data fits 64 bits.

@@ -1,3 +1,3 @@
-pub mod Next
-pub mod Keys
+pub mod SearchTurns
+pub mod NextKeyFacts
 pub mod Ordered

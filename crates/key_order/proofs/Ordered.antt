@@ -17,7 +17,7 @@ use Rattle.key_order.specs.declared.LastKey.{LastKey}
 use Rattle.key_order.specs.declared.LastKey.the-variants.{Start, After}
 use Rattle.key_order.specs.declared.NextKey.{NextKey}
 use Rattle.key_order.specs.declared.NextKey.the-variants.{At, Done}
-use Rattle.key_order.proofs.Keys.{next-best, next-after, next-latest, next-none}
+use Rattle.key_order.proofs.NextKeyFacts.{next-best, next-after, next-latest, next-none}
 
 -- how many rows pass a test
 abbrev count : (List ℕ → Bool) → List (List ℕ) → ℕ

@@ -1,6 +1,6 @@
 pub mod KindTable
 pub mod Products
-pub mod Measures
+pub mod SizeTests
 pub mod Answers
 pub mod Examples
 pub mod KnownProducts

@@ -1,4 +1,4 @@
 pub mod Padding
 pub mod Places
-pub mod Facts
+pub mod OffsetFacts
 pub mod Examples

@@ -1,3 +1,3 @@
 pub mod Lengths
-pub mod Counted
+pub mod RowsListed
 pub mod Examples

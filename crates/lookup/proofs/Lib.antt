@@ -1,4 +1,4 @@
-pub mod KeyCompared
+pub mod KeysInside
 pub mod LastEntry
 pub mod LookupNeverSix
 pub mod Examples

@@ -31,7 +31,7 @@ use Rattle.plan.specs.Header.{ownAlignment, adds, alignmentEntry, insert
 use Rattle.plan.specs.Plan.{draftWith, draftOf}
 use Rattle.plan.specs.Steps.{roomed, takenFrom}
 use Rattle.plan.proofs.Rooms.{taken-thrice}
-use Rattle.plan.proofs.Sizes.{one-length, entry-length, header-length, rows-none, rows-more}
+use Rattle.plan.proofs.PartLengths.{one-length, entry-length, header-length, rows-none, rows-more}
 
 -- the entry that is added
 pub added-length : (k : Dialect) (a : ℕ) → length (entryBytes k (alignmentEntry a)) ≡ sizeWidth k + 25

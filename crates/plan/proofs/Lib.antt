@@ -1,7 +1,7 @@
 pub mod Rooms
 pub mod Counts
-pub mod Sizes
-pub mod Measures
+pub mod PartLengths
+pub mod ValueLengths
 pub mod PlanTurns
 pub mod Drafts
 pub mod Tests

@@ -31,7 +31,7 @@ use Rattle.sheet.specs.declared.EntryFound.the-variants.{Found as FoundEntry}
 use Rattle.sheet.specs.declared.TensorFound.the-variants.{Found as FoundTensor, Bad as NoTensor}
 use Rattle.sheet.specs.Format.{value, SheetEntry, metadata, shape, SheetTensor, tensorBody, tensor}
 use Rattle.sheet.specs.Sheet.{entryOf, tensorOf}
-use Rattle.sheet.proofs.Steps.{entry-yes, tensor-no, tensor-yes, next-there}
+use Rattle.sheet.proofs.BackFromAnswers.{entry-yes, tensor-no, tensor-yes, next-there}
 use Rattle.sheet.proofs.PartsFound.{entry-told, tensor-told, sure-framed}
 use Rattle.sheet.proofs.ManyEntries.{key-stands}
 use Rattle.plan.specs.declared.Room.{Room}
@@ -42,8 +42,8 @@ use Rattle.plan.specs.Header.{ownAlignmentWith, entryIn, pieceOf, conten
 use Rattle.plan.specs.Plan.{laidOf}
 use Rattle.plan.specs.Steps.{takenFrom, contentRead}
 use Rattle.plan.proofs.Rooms.{taken-none, taken-twice}
-use Rattle.plan.proofs.Sizes.{entry-length, stored-length, tensor-eights, rows-none, rows-more}
-use Rattle.plan.proofs.Measures.{heard-one}
+use Rattle.plan.proofs.PartLengths.{entry-length, stored-length, tensor-eights, rows-none, rows-more}
+use Rattle.plan.proofs.ValueLengths.{heard-one}
 
 -- nothing is left, as a loop has it that counts i up to n
 pub got-ends : {A : Type 0} (m : Reading A) (s : List ℕ) (at n i : ℕ) → n ≤ i → got (run (times (n - i) m) s at) ≡ []

@@ -1,7 +1,7 @@
 pub mod AlignmentKept
 pub mod PlannedFits
 pub mod WrittenReadsBack
-pub mod Sizes
+pub mod SizesRead
 pub mod WrittenAnswer
 pub mod RowsSay
 pub mod WrittenTables
@@ -10,4 +10,4 @@ pub mod Offsets
 pub mod KeysAscend
 pub mod OneResult
 pub mod Known
-pub mod RefusalsListed
+pub mod WriterRefusals

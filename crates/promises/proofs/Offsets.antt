@@ -13,7 +13,7 @@ use Rattle.layout.specs.declared.Placed.{Placed}
 use Rattle.layout.specs.declared.Placed.the-variants.{At, Refused}
 use Rattle.layout.specs.Layout.{nothingLaid, placeOf, Layout, laidOut, refusedAt, ahead, layoutFrom, layoutOf}
 use Rattle.layout.specs.Arrangement.{Arrangement}
-use Rattle.layout.proofs.Facts.{offsets-arranged, offsets-tight}
+use Rattle.layout.proofs.OffsetFacts.{offsets-arranged, offsets-tight}
 use Rattle.layout.proofs.Places.{layout-end, layout-stops, layout-goes-on, placed-by}
 use Rattle.values.specs.declared.Dialect.{Dialect}
 use Rattle.tensors.specs.Format.{lengths}

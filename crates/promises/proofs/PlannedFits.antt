@@ -36,7 +36,7 @@ use Rattle.plan.specs.declared.LaidOut.the-variants.{Fits, Refused as NotLaid}
 use Rattle.plan.specs.Header.{ownAlignment, adds, alignmentEntry, inserted, entryIn, entriesWith, entriesOf, pieceOf, laidWith, laidFrom, headerContents, endOf, startOf}
 use Rattle.plan.specs.Plan.{canAdd, laidOf, countsFit}
 use Rattle.plan.proofs.Drafts.{padded-not-below}
-use Rattle.plan.proofs.Sizes.{entry-length, stored-length, header-length, rows-more}
+use Rattle.plan.proofs.PartLengths.{entry-length, stored-length, header-length, rows-more}
 use Rattle.plan.proofs.PlanTurns.{laid-ahead}
 use Rattle.writer.proofs.Planned.{PlannedBy, length-weights}
 use Rattle.promises.proofs.AlignmentKept.{alignment-said, added-small}

@@ -26,8 +26,8 @@ abbrev headOf : Summary → Header
 headOf t = record {
   version = t .dialect .version;
   big = t .dialect .big;
-  entries = length (t .sheet .entries);
-  tensors = length (t .sheet .tensors);
+  entries = length (t .contents .entries);
+  tensors = length (t .contents .tensors);
   alignment = t .alignment;
   end = t .end;
   start = t .start;

@@ -48,8 +48,8 @@ module _ (k : Dialect) (a : ℕ) (s : List ℕ) (end start cap : ℕ) (es ts : L
   told-tables (accepted w q) e h head =
       let is : summaryIn bytes w ≡ summaryFor k a s end start = cc in
       let dialect : dialectOf w ≡ k = ap (λ (t : Summary). t .dialect) is in
-      let entries : map (entryContent (dialectOf w) bytes) (w .entries) ≡ contentsFor a s .entries = ap (λ (t : Summary). t .sheet .entries) is in
-      let tensors : map (tensorContent bytes) (w .tensors) ≡ contentsFor a s .tensors = ap (λ (t : Summary). t .sheet .tensors) is in
+      let entries : map (entryContent (dialectOf w) bytes) (w .entries) ≡ contentsFor a s .entries = ap (λ (t : Summary). t .contents .entries) is in
+      let tensors : map (tensorContent bytes) (w .tensors) ≡ contentsFor a s .tensors = ap (λ (t : Summary). t .contents .tensors) is in
       let e-says : map (entryInRow k bytes) (map entryRow (w .entries)) ≡ contentsFor a s .entries =
       entries-said k bytes (w .entries) (values-in-rows full cap es ts bytes e) ∙ ap (λ d. map (entryContent d bytes) (w .entries)) (sym dialect) ∙ entries in
       let t-says : map (tensorInRow bytes) (map tensorRow (w .tensors)) ≡ contentsFor a s .tensors = tensors-said bytes (w .tensors) ∙ tensors in

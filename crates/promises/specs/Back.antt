@@ -43,7 +43,7 @@ offsetsIn a s = map (λ (t : TensorContent). t .offset) (contentsFor a s .tensor
 
 -- what is to be told of it, where it ends and its data starts
 abbrev pub summaryFor : Dialect → ℕ → List ℕ → ℕ → ℕ → Summary
-summaryFor k a s end start = record { dialect = k; sheet = contentsFor a s; alignment = a; end = end; start = start }
+summaryFor k a s end start = record { dialect = k; contents = contentsFor a s; alignment = a; end = end; start = start }
 
 -- tables with a row for each of its records
 pub record Enough (a : ℕ) (s : List ℕ) (es ts : List (List ℕ)) : Type 0 where
@@ -53,5 +53,5 @@ pub record Enough (a : ℕ) (s : List ℕ) (es ts : List (List ℕ)) : Type 0 wh
 -- an answer but for what a version decides: the version itself, where the header ends, and where
 -- its data starts
 abbrev pub versionless : Answer Summary → Answer Summary
-versionless (accepted t q) = accepted (record { dialect = record { version = 0; big = t .dialect .big }; sheet = t .sheet; alignment = t .alignment; end = 0; start = 0 }) 0
+versionless (accepted t q) = accepted (record { dialect = record { version = 0; big = t .dialect .big }; contents = t .contents; alignment = t .alignment; end = 0; start = 0 }) 0
 versionless (refused n p) = refused n p

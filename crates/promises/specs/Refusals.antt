@@ -59,7 +59,7 @@ halfEntry = flatEntry 97 24 (128 ∷ 0 ∷ 0 ∷ 0 ∷ 0 ∷ 0 ∷ 0 ∷ 0 ∷ [
 -- has no bytes. That the range check gives 20 is among the known numbers.
 pub record Given : Type 0 where
   pub version : answerFor (little 4) 32 (1 ∷ []) [] ≡ NotWritten 30 0
-  pub sheet : answerFor (little 3) 32 (1 ∷ 0 ∷ []) [] ≡ NotWritten 31 1
+  pub contents : answerFor (little 3) 32 (1 ∷ 0 ∷ []) [] ≡ NotWritten 31 1
   pub alignment : answerFor (little 3) 12 (1 ∷ []) [] ≡ NotWritten 32 0
   pub no-u32 : answerFor (little 3) (2 ^ 32) (1 ∷ []) [] ≡ NotWritten 33 0
   pub other : answerFor (little 3) 32 sheet64 [] ≡ NotWritten 34 0

@@ -74,7 +74,7 @@ pub record SaysSheet (k : Dialect) (a : ℕ) (s : List ℕ) (end start : ℕ) (e
 abbrev pub summaryInTables : List ℕ → List (List ℕ) → List (List ℕ) → Header → Summary
 summaryInTables bytes entries tensors h = record {
   dialect = dialectIn h;
-  sheet = record { entries = map (entryInRow (dialectIn h) bytes) (take (h .entries) entries); tensors = map (tensorInRow bytes) (take (h .tensors) tensors) };
+  contents = record { entries = map (entryInRow (dialectIn h) bytes) (take (h .entries) entries); tensors = map (tensorInRow bytes) (take (h .tensors) tensors) };
   alignment = h .alignment;
   end = h .end;
   start = h .start;

@@ -14,7 +14,7 @@ use Rattle.reading.proofs.RunLaws.{goes-on, run-bind, stops, inside}
 use Rattle.sheet.specs.Format.{opening, framed}
 use Rattle.sheet.specs.declared.Opened.the-variants.{Body, Bad}
 use Rattle.sheet.proofs.PartsFound.{sure-opening}
-use Rattle.sheet.proofs.Steps.{Refusal}
+use Rattle.sheet.proofs.BackFromAnswers.{Refusal}
 use Rattle.sheet.specs.Steps.{openedOf}
 
 -- an answer that stays where it ends at e

@@ -1,4 +1,4 @@
-pub mod Steps
+pub mod BackFromAnswers
 pub mod SheetItems
 pub mod PartsFound
 pub mod Frames

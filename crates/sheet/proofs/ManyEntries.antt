@@ -18,7 +18,7 @@ use Rattle.sheet.specs.Sheet.{asMany, isMetadata, Last, follows, next}
 use Rattle.sheet.specs.declared.Counted.{Counted}
 use Rattle.sheet.specs.declared.Counted.the-variants.{Counts, Bad}
 use Rattle.sheet.proofs.PartsFound.{entry-told, entry-ends}
-use Rattle.sheet.proofs.Steps.{Refusal}
+use Rattle.sheet.proofs.BackFromAnswers.{Refusal}
 use Rattle.sheet.specs.Steps.{countOf}
 
 -- so many more

@@ -1,5 +1,5 @@
--- What the sheet's private steps are held to: their answers, without what an entry says. No contract of
--- a public function of this crate cites it.
+-- What the sheet's private steps are held to: their answers, without what an entry says. No
+-- contract of a public function of this crate cites it.
 use Prim.Native.Nat.{ℕ, zero, suc, _+_}
 use mathlib.Core.Bool.{Bool, true}
 use mathlib.Core.List.{List, [], _∷_}

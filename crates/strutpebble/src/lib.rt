@@ -1,9 +1,9 @@
 // The functions that C and other languages link: numbers and slices only, thin over the proved
 // crates. include/strutpebble.h declares them.
 //
-// Each returns 0, or a number that says why there is no answer: a refusal's, or a STATUS_ constant of
-// lookup or of words. Each writes all eight words of the answer that it was lent: the answer's own,
-// or of a refusal its place and seven zeros.
+// Each returns 0, or a number that says why there is no answer: a refusal's, or a STATUS_ constant
+// of lookup or of words. Each writes all eight words of the answer that it was lent: the answer's
+// own, or of a refusal its place and seven zeros.
 use reading::Limits;
 use rows::EntryRow;
 use rows::TensorRow;

@@ -1,6 +1,6 @@
-pub mod Again
+pub mod LentAgain
 pub mod Chosen
-pub mod Facts
+pub mod SeveralFacts
 pub mod Filled
 pub mod Listed
 pub mod Within

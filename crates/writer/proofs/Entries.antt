@@ -25,7 +25,7 @@ use Rattle.sheet.specs.declared.EntryFound.the-variants.{Found}
 use Rattle.sheet.specs.declared.Stepped.the-variants.{To}
 use Rattle.sheet.proofs.ManyEntries.{key-stands}
 use Rattle.sheet.proofs.PartsFound.{entry-told}
-use Rattle.sheet.proofs.Steps.{entry-yes}
+use Rattle.sheet.proofs.BackFromAnswers.{entry-yes}
 use Rattle.writer.proofs.RowsWritten.{rows-append, Split, split}
 use Rattle.plan.proofs.Drafts.{added-length}
 use Rattle.plan.specs.Steps.{contentRead}

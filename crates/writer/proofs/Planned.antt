@@ -36,7 +36,7 @@ use Rattle.plan.specs.Header.{ownAlignment, entriesWith, entriesOf, pieceOf, la
 use Rattle.plan.specs.Plan.{requireFormed, requireLaid, canAdd, agrees, laidOf, countsFit, planOf, planFor}
 use Rattle.header.specs.Format.{isAlignment}
 use Rattle.plan.specs.Steps.{aligned}
-use Rattle.plan.proofs.Sizes.{start-length}
+use Rattle.plan.proofs.PartLengths.{start-length}
 use Rattle.plan.proofs.Drafts.{entries-count, padded-not-below}
 use Rattle.writer.specs.Output.{headerFor, leftBy}
 use Rattle.writer.specs.Steps.{entryCount}

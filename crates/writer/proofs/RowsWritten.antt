@@ -15,7 +15,7 @@ use Rattle.reading.specs.Reading.{Reading, done, Answer, accepted, refused, run
 use Rattle.reading.proofs.RunLaws.{goes-on, bind-inv}
 use Rattle.reading.proofs.Repetition.{times-accepted, times-got, times-ends, times-never}
 use Rattle.sheet.specs.declared.Stepped.the-variants.{To}
-use Rattle.sheet.proofs.Steps.{steps-on}
+use Rattle.sheet.proofs.BackFromAnswers.{steps-on}
 use Rattle.writer.proofs.Loops.{Part, part-start, part-turn, part-end, part-room}
 use Rattle.sheet.specs.Steps.{stepOf}
 

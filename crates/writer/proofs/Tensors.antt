@@ -29,7 +29,7 @@ use Rattle.sheet.proofs.PartsFound.{tensor-told}
 use Rattle.plan.specs.declared.LaidOut.the-variants.{Fits}
 use Rattle.plan.specs.Header.{pieceOf, contentAt, laidWith, laidFrom}
 use Rattle.plan.specs.Plan.{laidOf}
-use Rattle.plan.proofs.Sizes.{tensor-length}
+use Rattle.plan.proofs.PartLengths.{tensor-length}
 use Rattle.plan.proofs.PlanTurns.{laid-ahead}
 use Rattle.writer.proofs.Loops.{Part, part-start, part-turn, part-end, part-room}
 use Rattle.writer.specs.Steps.{shapeSize}

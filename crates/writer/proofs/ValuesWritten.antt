@@ -21,14 +21,14 @@ use Rattle.values.specs.Format.{sizeWidth, depth}
 use Rattle.scalars.specs.Scalars.{scalarWidth}
 use Rattle.values.specs.declared.Dialect.{Dialect}
 use Rattle.values.specs.declared.Span.{Span}
-use Rattle.plan.proofs.Sizes.{type-length, size-length, text-length}
+use Rattle.plan.proofs.PartLengths.{type-length, size-length, text-length}
 use Rattle.sheet.specs.Format.{Text, textOf, text, scalar, itemType, array, item, value}
 use Rattle.sheet.specs.Sheet.{spanOf}
 use Rattle.sheet.specs.declared.Stepped.the-variants.{To}
 use Rattle.sheet.specs.declared.TextFound.the-variants.{Found, Bad}
 use Rattle.sheet.proofs.SheetItems.{has-none, item-text, item-none, value-text, value-none}
 use Rattle.sheet.proofs.PartsFound.{TextTold, scalar-told, sure-textOf, sure-text}
-use Rattle.sheet.proofs.Steps.{span-no, span-yes, step-yes}
+use Rattle.sheet.proofs.BackFromAnswers.{span-no, span-yes, step-yes}
 use Rattle.plan.specs.Steps.{contentRead}
 use Rattle.sheet.specs.Steps.{stepOf}
 use Rattle.writer.specs.Steps.{numberIn}

@@ -1,5 +1,5 @@
--- What the writer's private steps are held to: sizes and counts of what they write. No contract of a
--- public function cites it.
+-- What the writer's private steps are held to: sizes and counts of what they write. No contract of
+-- a public function cites it.
 use Prim.Native.Nat.{ℕ, suc, _+_, _-_}
 use mathlib.Core.List.{List, [], _∷_, _++_}
 use lib.Dec.{ltb}

@@ -6,7 +6,7 @@ use mathlib.Core.Path.{_≡_, refl, sym, _∙_}
 use native.Mathlib.Omega.{arith}
 use lib.ListN.{length, drop}
 use Rattle.key_order.specs.Order.{bestFrom, nextKey}
-use Rattle.key_order.proofs.Next.{best-turn, best-end}
+use Rattle.key_order.proofs.SearchTurns.{best-turn, best-end}
 use Rattle.key_order.proofs.next_key.Statement.{statement}
 use Rattle.key_order.proofs.next_key.Tie as tie
 

@@ -4,7 +4,7 @@ use borrow.Author.Needs.{needs}
 use borrow.Author.Tests.{le-leb}
 use mathlib.Core.Path.{sym, _∙_}
 use Rattle.kinds.specs.Table.{blockOf}
-use Rattle.kinds.proofs.Measures.{many-fit, many-not}
+use Rattle.kinds.proofs.SizeTests.{many-fit, many-not}
 use Rattle.kinds.proofs.Products.{few-fit}
 use Rattle.kinds.proofs.KindTable.{small-block}
 use Rattle.kinds.proofs.fits.Statement.{statement}

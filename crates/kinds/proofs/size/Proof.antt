@@ -2,7 +2,7 @@
 -- the definition. Assumes nothing.
 use borrow.Author.Needs.{needs}
 use mathlib.Core.Path.{sym, _∙_}
-use Rattle.kinds.proofs.Measures.{Passed, no-kind, no-product, no-size, bytes-fit, sized}
+use Rattle.kinds.proofs.SizeTests.{Passed, no-kind, no-product, no-size, bytes-fit, sized}
 use Rattle.kinds.proofs.size.Statement.{statement}
 use Rattle.kinds.proofs.size.Tie as tie
 

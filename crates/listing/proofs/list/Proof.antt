@@ -5,7 +5,7 @@ use mathlib.Core.Path.{sym, ap, _∙_}
 use native.Mathlib.Omega.{arith}
 use denote.Ref.{now}
 use Rattle.header.specs.Answers.{asHeader}
-use Rattle.listing.proofs.Counted.{Told, entries-inside, tensors-inside, lines-listed, refusal-listed}
+use Rattle.listing.proofs.RowsListed.{Told, entries-inside, tensors-inside, lines-listed, refusal-listed}
 use Rattle.text_out.proofs.Put.{put-same}
 use Rattle.listing.proofs.list.Statement.{statement}
 use Rattle.listing.proofs.list.Tie as tie

@@ -11,7 +11,7 @@ use Rattle.reading.specs.Back.{bytesOfAll}
 use Rattle.key_order.specs.Order.{nextKey, orderedAfter, ordered}
 use Rattle.listing.specs.Text.{keyLine}
 use Rattle.key_order.specs.declared.NextKey.the-variants.{At}
-use Rattle.key_order.proofs.Next.{next-inside, ordered-turn, ordered-ends, ordered-none}
+use Rattle.key_order.proofs.SearchTurns.{next-inside, ordered-turn, ordered-ends, ordered-none}
 use Rattle.text_out.proofs.Put.{put-long}
 use Rattle.text_out.proofs.Writing.{Writing, writing-starts, writing-turns, writing-ends, one-line, no-lines}
 use Rattle.listing.proofs.put_keys.Statement.{statement}

@@ -14,7 +14,7 @@ use Rattle.values.specs.Format.{entry}
 use Rattle.values.specs.Answers.{asEntry}
 use Rattle.lookup.specs.Questions.{sought}
 use Rattle.lookup.specs.declared.Sought.the-variants.{Missing}
-use Rattle.lookup.proofs.KeyCompared.{key-inside}
+use Rattle.lookup.proofs.KeysInside.{key-inside}
 use Rattle.lookup.proofs.LastEntry.{folded, never}
 use Rattle.lookup.proofs.find_last.Statement.{statement}
 use Rattle.lookup.proofs.find_last.Tie as tie

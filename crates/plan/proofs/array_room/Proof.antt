@@ -13,11 +13,11 @@ use Rattle.reading.specs.Reading.{accepted, run}
 use Rattle.fields.specs.Value.{number, asNumber}
 use Rattle.values.specs.Format.{depth}
 use Rattle.sheet.specs.Format.{array, item}
-use Rattle.sheet.proofs.Steps.{step-yes}
+use Rattle.sheet.proofs.BackFromAnswers.{step-yes}
 use Rattle.plan.specs.Steps.{takenFrom}
 use Rattle.plan.proofs.Rooms.{taken-thrice}
-use Rattle.plan.proofs.Sizes.{size-cases}
-use Rattle.plan.proofs.Measures.{wider, Measured, array-typed, array-counted, array-measure, array-size}
+use Rattle.plan.proofs.PartLengths.{size-cases}
+use Rattle.plan.proofs.ValueLengths.{wider, Measured, array-typed, array-counted, array-measure, array-size}
 use Rattle.plan.proofs.array_room.Statement.{statement}
 use Rattle.plan.proofs.array_room.Tie as tie
 

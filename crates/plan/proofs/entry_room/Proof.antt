@@ -3,7 +3,7 @@
 use borrow.Author.Needs.{needs}
 use native.Mathlib.Omega.{arith}
 use Rattle.plan.proofs.Rooms.{taken-thrice}
-use Rattle.plan.proofs.Sizes.{size-cases}
+use Rattle.plan.proofs.PartLengths.{size-cases}
 use Rattle.plan.proofs.entry_room.Statement.{statement}
 use Rattle.plan.proofs.entry_room.Tie as tie
 

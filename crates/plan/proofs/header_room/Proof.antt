@@ -8,7 +8,7 @@ use native.Mathlib.Omega.{arith}
 use Rattle.reading.specs.Choice.{if_then_else_}
 use Rattle.layout.specs.Layout.{nothingLaid}
 use Rattle.values.specs.Format.{sizeWidth}
-use Rattle.plan.proofs.Sizes.{size-cases}
+use Rattle.plan.proofs.PartLengths.{size-cases}
 use Rattle.plan.proofs.Drafts.{entries-there, tensors-there, header-taken}
 use Rattle.plan.proofs.header_room.Statement.{statement}
 use Rattle.plan.proofs.header_room.Tie as tie

@@ -2,7 +2,7 @@
 use borrow.Author.Needs.{needs}
 use native.Mathlib.Omega.{arith}
 use Rattle.plan.proofs.Rooms.{taken-twice}
-use Rattle.plan.proofs.Sizes.{size-cases}
+use Rattle.plan.proofs.PartLengths.{size-cases}
 use Rattle.plan.proofs.tensor_room.Statement.{statement}
 use Rattle.plan.proofs.tensor_room.Tie as tie
 

@@ -4,7 +4,7 @@ use borrow.Author.Needs.{needs}
 use mathlib.Core.Path.{_≡_, sym, ap, _∙_}
 use Rattle.fields.specs.Value.{widthOf, asNumber}
 use Rattle.scalars.specs.Scalars.{scalarWidth, asWidth}
-use Rattle.plan.proofs.Measures.{says-nothing, scalar-there, says-scalar}
+use Rattle.plan.proofs.ValueLengths.{says-nothing, scalar-there, says-scalar}
 use Rattle.plan.proofs.value_alignment.Statement.{statement}
 use Rattle.plan.proofs.value_alignment.Tie as tie
 

@@ -3,10 +3,10 @@
 use borrow.Author.Needs.{needs}
 use mathlib.Core.Path.{ap, _∙_}
 use Rattle.sheet.proofs.PartsFound.{onward}
-use Rattle.sheet.proofs.Steps.{step-yes}
+use Rattle.sheet.proofs.BackFromAnswers.{step-yes}
 use Rattle.plan.specs.Steps.{takenFrom}
 use Rattle.plan.proofs.Rooms.{taken-twice}
-use Rattle.plan.proofs.Measures.{text-size, scalar-size, value-is-array}
+use Rattle.plan.proofs.ValueLengths.{text-size, scalar-size, value-is-array}
 use Rattle.plan.proofs.value_room.Statement.{statement}
 use Rattle.plan.proofs.value_room.Tie as tie
 use Rattle.sheet.specs.Steps.{stepOf}

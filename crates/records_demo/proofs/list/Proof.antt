@@ -59,7 +59,7 @@ use Rattle.header.specs.declared.HeaderRead.{HeaderRead}
 use Rattle.tensor_records.specs.declared.TensorRecord.{TensorRecord}
 use Rattle.tensor_records.specs.Records.{tensorRecord, listingOf, gotAt}
 use Rattle.tensor_records.specs.declared.RecordGot.{RecordGot}
-use Rattle.tensor_records.proofs.Facts.{and, last, together, says-all}
+use Rattle.tensor_records.proofs.SeveralFacts.{and, last, together, says-all}
 use Rattle.tensor_records.proofs.get.Symbol.{name as #tensor-records·get}
 use Rattle.tensor_records.proofs.read_records.Symbol.{name as #tensor-records·read-records}
 use Rattle.records_demo.specs.Listed.{recordsIn, listed}

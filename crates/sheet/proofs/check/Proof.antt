@@ -10,7 +10,7 @@ use denote.Ref.{now}
 use Rattle.reading.specs.Reading.{andThen}
 use Rattle.sheet.specs.Sheet.{entriesFrom, tensorsFrom, sheetOf}
 use Rattle.sheet.specs.declared.Checked.the-variants.{WellFormed}
-use Rattle.sheet.proofs.Steps.{Shows, count-no, count-yes}
+use Rattle.sheet.proofs.BackFromAnswers.{Shows, count-no, count-yes}
 use Rattle.sheet.proofs.check.Statement.{statement}
 use Rattle.sheet.proofs.check.Tie as tie
 

@@ -14,7 +14,7 @@ use Rattle.sheet.specs.Format.{SheetEntry}
 use Rattle.sheet.specs.Sheet.{asMany, isMetadata, next, keyOf, lastKey, noKey, lastIn, entriesFrom}
 use Rattle.sheet.specs.declared.EntryParts.{EntryParts}
 use Rattle.sheet.proofs.ManyEntries.{added, many-starts, many-ends, many-stops, many-more, tag-inside, next-told}
-use Rattle.sheet.proofs.Steps.{Shows, entry-no, entry-yes}
+use Rattle.sheet.proofs.BackFromAnswers.{Shows, entry-no, entry-yes}
 use Rattle.sheet.proofs.check_entries.Statement.{statement}
 use Rattle.sheet.proofs.check_entries.Tie as tie
 use Rattle.sheet.specs.Steps.{countOf}

@@ -9,7 +9,7 @@ use Rattle.reading.specs.Reading.{accepted, run}
 use Rattle.sheet.specs.Format.{opening, entryBody, metadata}
 use Rattle.sheet.specs.declared.EntryFound.the-variants.{Found}
 use Rattle.sheet.proofs.Frames.{framed-run, unopened, opened}
-use Rattle.sheet.proofs.Steps.{entry-no, entry-yes}
+use Rattle.sheet.proofs.BackFromAnswers.{entry-no, entry-yes}
 use Rattle.sheet.proofs.entry_at.Statement.{statement}
 use Rattle.sheet.proofs.entry_at.Tie as tie
 

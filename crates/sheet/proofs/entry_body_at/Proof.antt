@@ -9,7 +9,7 @@ use Rattle.fields.specs.Value.{asNumber, number}
 use Rattle.reading.proofs.RunLaws.{run-bind}
 use Rattle.sheet.specs.Format.{Text, text, value, entryBody}
 use Rattle.sheet.specs.declared.EntryFound.the-variants.{Found}
-use Rattle.sheet.proofs.Steps.{Shows, span-no, span-yes, step-no, step-yes}
+use Rattle.sheet.proofs.BackFromAnswers.{Shows, span-no, span-yes, step-no, step-yes}
 use Rattle.sheet.proofs.entry_body_at.Statement.{statement}
 use Rattle.sheet.proofs.entry_body_at.Tie as tie
 

@@ -11,7 +11,7 @@ use Rattle.sheet.specs.Sheet.{follows, lastIn, next}
 use Rattle.sheet.specs.declared.EntryParts.{EntryParts}
 use Rattle.sheet.specs.declared.EntryFound.the-variants.{Found}
 use Rattle.sheet.proofs.ManyEntries.{key-stands}
-use Rattle.sheet.proofs.Steps.{Shows, entry-no, entry-yes}
+use Rattle.sheet.proofs.BackFromAnswers.{Shows, entry-no, entry-yes}
 use Rattle.sheet.proofs.next_entry.Statement.{statement}
 use Rattle.sheet.proofs.next_entry.Tie as tie
 

@@ -12,7 +12,7 @@ use Rattle.reading.proofs.RunLaws.{run-bind}
 use Rattle.values.specs.Contents.{anArray}
 use Rattle.values.specs.Format.{depth}
 use Rattle.sheet.specs.Format.{array, item}
-use Rattle.sheet.proofs.Steps.{step-then}
+use Rattle.sheet.proofs.BackFromAnswers.{step-then}
 use Rattle.sheet.proofs.pass_array.Statement.{statement}
 use Rattle.sheet.proofs.pass_array.Tie as tie
 

@@ -10,7 +10,7 @@ use Rattle.fields.specs.Value.{asNumber, widthOf}
 use Rattle.scalars.specs.Scalars.{asWidth, scalarWidth}
 use Rattle.sheet.specs.Format.{text}
 use Rattle.sheet.proofs.SheetItems.{has-width, has-none, item-scalar, item-text, item-none}
-use Rattle.sheet.proofs.Steps.{span-no, span-yes}
+use Rattle.sheet.proofs.BackFromAnswers.{span-no, span-yes}
 use Rattle.sheet.proofs.pass_item.Statement.{statement}
 use Rattle.sheet.proofs.pass_item.Tie as tie
 

@@ -11,7 +11,7 @@ use Rattle.reading.specs.Each.{times}
 use Rattle.reading.proofs.Repetition.{times-ends}
 use Rattle.values.specs.Format.{depth}
 use Rattle.sheet.specs.Format.{item}
-use Rattle.sheet.proofs.Steps.{steps-on, steps-not}
+use Rattle.sheet.proofs.BackFromAnswers.{steps-on, steps-not}
 use Rattle.sheet.proofs.pass_items.Statement.{statement}
 use Rattle.sheet.proofs.pass_items.Tie as tie
 use Rattle.sheet.specs.Steps.{stepOf}

@@ -13,7 +13,7 @@ use Rattle.fields.specs.Value.{asNumber, widthOf}
 use Rattle.scalars.specs.Scalars.{asWidth, scalarWidth}
 use Rattle.sheet.specs.Format.{textOf}
 use Rattle.sheet.proofs.SheetItems.{has-width, has-none, value-scalar, value-text, value-array, value-none}
-use Rattle.sheet.proofs.Steps.{span-no, span-yes}
+use Rattle.sheet.proofs.BackFromAnswers.{span-no, span-yes}
 use Rattle.sheet.proofs.pass_value.Statement.{statement}
 use Rattle.sheet.proofs.pass_value.Tie as tie
 

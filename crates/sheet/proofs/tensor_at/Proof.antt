@@ -9,7 +9,7 @@ use Rattle.reading.specs.Reading.{accepted, run}
 use Rattle.sheet.specs.Format.{opening, tensorBody, tensor}
 use Rattle.sheet.specs.declared.TensorFound.the-variants.{Found}
 use Rattle.sheet.proofs.Frames.{framed-run, unopened, opened}
-use Rattle.sheet.proofs.Steps.{tensor-no, tensor-yes}
+use Rattle.sheet.proofs.BackFromAnswers.{tensor-no, tensor-yes}
 use Rattle.sheet.proofs.tensor_at.Statement.{statement}
 use Rattle.sheet.proofs.tensor_at.Tie as tie
 

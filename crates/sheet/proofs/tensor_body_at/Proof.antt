@@ -8,7 +8,7 @@ use Rattle.fields.specs.Value.{asNumber, number}
 use Rattle.reading.proofs.RunLaws.{run-bind}
 use Rattle.sheet.specs.Format.{Text, text, shape, tensorBody}
 use Rattle.sheet.specs.declared.TensorFound.the-variants.{Found}
-use Rattle.sheet.proofs.Steps.{Shows, span-no, span-yes, shape-no, shape-yes}
+use Rattle.sheet.proofs.BackFromAnswers.{Shows, span-no, span-yes, shape-no, shape-yes}
 use Rattle.sheet.proofs.tensor_body_at.Statement.{statement}
 use Rattle.sheet.proofs.tensor_body_at.Tie as tie
 

@@ -55,8 +55,8 @@ use Rattle.header.specs.Answers.{asHeader}
 use Rattle.header.specs.declared.HeaderRead.{HeaderRead}
 use Rattle.tensor_records.specs.declared.TensorRecord.{TensorRecord}
 use Rattle.tensor_records.specs.Records.{filledFrom, tensorsIn, tensorRecord, listingOf}
-use Rattle.tensor_records.proofs.Again.{LentAgain, lends-again, comes-back}
-use Rattle.tensor_records.proofs.Facts.{and, last, together, says-all}
+use Rattle.tensor_records.proofs.LentAgain.{LentAgain, lends-again, comes-back}
+use Rattle.tensor_records.proofs.SeveralFacts.{and, last, together, says-all}
 use Rattle.tensor_records.proofs.Listed.{listed}
 use Rattle.tensor_records.proofs.read_within.Symbol.{name as #tensor-records·read-within}
 use Rattle.tensor_records.proofs.tensors_in.Symbol.{name as #tensor-records·tensors-in}

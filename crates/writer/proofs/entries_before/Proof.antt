@@ -8,7 +8,7 @@ use denote.Ref.{now}
 use Rattle.fields.specs.Order.{before}
 use Rattle.values.specs.Format.{alignmentKey}
 use Rattle.sheet.specs.Format.{metadata}
-use Rattle.sheet.proofs.Steps.{next-there}
+use Rattle.sheet.proofs.BackFromAnswers.{next-there}
 use Rattle.writer.proofs.Entries.{EntryThere, entry-there, Passed, passed-start, passed-here, passed-turn, passed-end}
 use Rattle.writer.proofs.entries_before.Statement.{statement}
 use Rattle.writer.proofs.entries_before.Tie as tie

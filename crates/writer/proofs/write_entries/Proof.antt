@@ -12,8 +12,8 @@ use Rattle.reading.specs.Reading.{run}
 use Rattle.values.specs.Contents.{entryBytes}
 use Rattle.plan.specs.Header.{entryIn}
 use Rattle.sheet.specs.Format.{metadata}
-use Rattle.sheet.proofs.Steps.{next-there}
-use Rattle.plan.proofs.Sizes.{entry-size}
+use Rattle.sheet.proofs.BackFromAnswers.{next-there}
+use Rattle.plan.proofs.PartLengths.{entry-size}
 use Rattle.writer.proofs.Entries.{EntryThere, entry-there}
 use Rattle.writer.proofs.RowsWritten.{wrote-as, rows-map, Left, left-start, left-room, left-turn, left-end}
 use Rattle.writer.proofs.write_entries.Statement.{statement}

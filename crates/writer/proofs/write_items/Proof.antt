@@ -9,7 +9,7 @@ use Rattle.reading.specs.Reading.{run, isAccepted}
 use Rattle.values.specs.Contents.{valueBytes}
 use Rattle.values.specs.Format.{depth}
 use Rattle.sheet.specs.Format.{item}
-use Rattle.sheet.proofs.Steps.{step-yes}
+use Rattle.sheet.proofs.BackFromAnswers.{step-yes}
 use Rattle.writer.proofs.RowsWritten.{Next, Left, left-start, left-next, left-turn, left-end}
 use Rattle.writer.proofs.write_items.Statement.{statement}
 use Rattle.writer.proofs.write_items.Tie as tie

@@ -15,7 +15,7 @@ use Rattle.values.specs.Format.{sizeWidth}
 use Rattle.values.specs.Contents.{insideOf}
 use Rattle.tensors.specs.Contents.{tensorBytes}
 use Rattle.sheet.specs.Format.{SheetTensor, tensor}
-use Rattle.sheet.proofs.Steps.{Shows, tensor-no, tensor-yes}
+use Rattle.sheet.proofs.BackFromAnswers.{Shows, tensor-no, tensor-yes}
 use Rattle.plan.specs.Header.{laidFrom}
 use Rattle.writer.proofs.Tensors.{Going, going-start, going-none, going-end, going-within, never-refused, going-room, going-on}
 use Rattle.writer.proofs.write_tensor_info_section.Statement.{statement}

@@ -26,9 +26,9 @@ use Rattle.header.specs.Contents.{contentAlignment}
 use Rattle.sheet.specs.Format.{Text, scalar, itemType, array, item, value}
 use Rattle.sheet.specs.declared.Stepped.the-variants.{To}
 use Rattle.sheet.proofs.SheetItems.{has-width, has-none, value-array}
-use Rattle.sheet.proofs.Steps.{step-yes}
+use Rattle.sheet.proofs.BackFromAnswers.{step-yes}
 use Rattle.sheet.proofs.PartsFound.{TextTold, scalar-told, sure-textOf, sure-text, onward}
-use Rattle.plan.proofs.Sizes.{size-cases, one-length, word-length, list-length, rows-more, rows-none}
+use Rattle.plan.proofs.PartLengths.{size-cases, one-length, word-length, list-length, rows-more, rows-none}
 use Rattle.sheet.specs.Steps.{stepOf}
 use Rattle.plan.specs.Steps.{contentRead}
 

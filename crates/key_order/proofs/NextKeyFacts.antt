@@ -16,7 +16,7 @@ use Rattle.key_order.specs.declared.LastKey.{LastKey}
 use Rattle.key_order.specs.declared.LastKey.the-variants.{After}
 use Rattle.key_order.specs.declared.NextKey.{NextKey}
 use Rattle.key_order.specs.declared.NextKey.the-variants.{At, Done}
-use Rattle.key_order.proofs.Next.{best-turn, best-end}
+use Rattle.key_order.proofs.SearchTurns.{best-turn, best-end}
 
 -- below the next number: the last one, or one before it
 under-suc : {A : Type 0} {k i : ℕ} → k < suc i → (k < i → A) → (k ≡ i → A) → A

@@ -254,7 +254,7 @@ unfolding run number here _>>=_ andThen lengthsOf lengthAt blockOf placeOf layou
     scalar scalarWidth value entryBody metadata next shape tensorBody tensor planFor headerBytes startBytes sizeBytes bytesOf little bytesOfAll
 given = record {
   version = refl;
-  sheet = refl;
+  contents = refl;
   alignment = refl;
   no-u32 = refl;
   other = refl;
