@@ -1,4 +1,5 @@
-//! The headers that are read: made up, alike in names, shapes and lengths to those of a language model. The same input is the same bytes each time.
+//! The headers that are read: made up, alike in names, shapes and lengths to those of a language
+//! model. The same input is the same bytes each time.
 
 /// What a header holds.
 #[derive(Clone, Copy, Default)]
@@ -115,7 +116,8 @@ impl Made {
         (self.seed >> 33) % n
     }
 
-    /// Letters of a token; half of the tokens begin a word, which is marked by a character of three bytes.
+    /// Letters of a token; half of the tokens begin a word, which is marked by a character of three
+    /// bytes.
     fn piece(&mut self, into: &mut Vec<u8>) {
         if self.below(2) == 0 {
             into.extend_from_slice("▁".as_bytes());
@@ -209,7 +211,8 @@ impl Made {
             lengths.iter().for_each(|n| self.u64(*n));
             self.u32(kind);
             self.u64(offset);
-            // Bytes of 256 lengths of the three kinds in use; each product here is a multiple of 32 of them.
+            // Bytes of 256 lengths of the three kinds in use; each product here is a multiple of 32
+            // of them.
             let blocks: u64 = lengths.iter().product::<u64>() / 256;
             offset += blocks * match kind { 0 => 1024, 12 => 144, _ => 210 };
         }

@@ -45,7 +45,8 @@ impl Tables {
     }
 }
 
-/// The original. Its own opening of a file looks at the magic in the same way, and keeps three items of a long array too.
+/// The original. Its own opening of a file looks at the magic in the same way, and keeps three
+/// items of a long array too.
 pub fn original(bytes: &'static [u8]) -> anyhow::Result<GGUFModel> {
     let (magic, rest) = bytes.split_at(4);
     let order = match i32::from_le_bytes(magic.try_into()?) {

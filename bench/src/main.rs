@@ -1,5 +1,6 @@
-//! `bench HOW INPUT`: all is set up, and then, for a count of instructions, the input is not read (`none`), read by this project (`ours`),
-//! or read by the original (`original`: what it made is dropped too, `kept`: it is not). `agree` compares what the two say, and `time` times them.
+//! `bench HOW INPUT`: all is set up, and then, for a count of instructions, the input is not read
+//! (`none`), read by this project (`ours`), or read by the original (`original`: what it made is
+//! dropped too, `kept`: it is not). `agree` compares what the two say, and `time` times them.
 
 use bench::{inputs::Plan, original, Tables};
 use std::hint::black_box;
@@ -23,7 +24,8 @@ fn main() {
     }
 }
 
-/// Panics where the two differ in whether they accept, in a count, in where the data starts, or in a tensor.
+/// Panics where the two differ in whether they accept, in a count, in where the data starts, or in
+/// a tensor.
 fn agree(bytes: &'static [u8], tables: &mut Tables) {
     let (number, answer) = tables.read(bytes);
     let model = match original(bytes) {
@@ -44,7 +46,8 @@ fn agree(bytes: &'static [u8], tables: &mut Tables) {
     println!("{} bytes, {} entries, {} tensors", bytes.len(), answer[2], answer[3]);
 }
 
-/// The shortest run of each reader, in microseconds. They take turns, so that what else the machine does meets both.
+/// The shortest run of each reader, in microseconds. They take turns, so that what else the machine
+/// does meets both.
 fn time(bytes: &'static [u8], tables: &mut Tables) {
     fn once(run: impl FnOnce()) -> f64 {
         let start = Instant::now();

@@ -61,7 +61,8 @@ pub fn class(message: &str) -> u64 {
     CLASSES.iter().find(|(text, _)| message.contains(text)).expect("an error that has no class").1
 }
 
-/// What the original says of the bytes as a file. Its own opening of a file reads the magic in the same way.
+/// What the original says of the bytes as a file. Its own opening of a file reads the magic in the
+/// same way.
 fn theirs(bytes: &[u8], cap: u64) -> Result<(GGUFModel, bool), u64> {
     let magic = bytes.get(..4).ok_or(1u64)?;
     let (order, big) = match i32::from_le_bytes(magic.try_into().unwrap()) {

@@ -24,7 +24,8 @@ impl Random {
     }
 }
 
-/// A header that was made up: its bytes, its byte order, and where its fields of numbers are (place and width).
+/// A header that was made up: its bytes, its byte order, and where its fields of numbers are (place
+/// and width).
 pub struct Made {
     pub bytes: Vec<u8>,
     pub big: bool,
@@ -207,7 +208,8 @@ pub fn header(random: &mut Random) -> Made {
     with_entries(random, 0, 6, entry)
 }
 
-/// A header with some hundred entries: the reader keeps the rows of up to 64 while it tests, and reads more of them twice.
+/// A header with some hundred entries: the reader keeps the rows of up to 64 while it tests, and
+/// reads more of them twice.
 pub fn long_header(random: &mut Random) -> Made {
     with_entries(random, 60, 80, entry)
 }

@@ -1,4 +1,5 @@
-//! Holds the reader and the writer against the original's: both are given the same, and every result is compared.
+//! Holds the reader and the writer against the original's: both are given the same, and every
+//! result is compared.
 
 #[allow(dead_code, unused)]
 #[path = "../original/src/lib.rs"]

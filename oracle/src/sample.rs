@@ -1,4 +1,5 @@
-//! A sample of the original's answers, stored for the program `replay`: its inputs and what the original said of each, and nothing of this project's reader.
+//! A sample of the original's answers, stored for the program `replay`: its inputs and what the
+//! original said of each, and nothing of this project's reader.
 
 use crate::compare::class;
 use crate::inputs::{damaged, header, Random};
@@ -29,7 +30,8 @@ impl Stored {
         self.0.extend_from_slice(text);
     }
 
-    /// A value: its form, and what it is. A float comes in both widths, since the original does not tell which one it read.
+    /// A value: its form, and what it is. A float comes in both widths, since the original does not
+    /// tell which one it read.
     fn value(&mut self, value: &Value) {
         match value {
             Value::Null => self.word(0),
@@ -66,7 +68,8 @@ impl Stored {
         self.word(tensor.size);
     }
 
-    /// All that the original tells of a header. It keeps its byte order to itself: that is its magic's.
+    /// All that the original tells of a header. It keeps its byte order to itself: that is its
+    /// magic's.
     fn model(&mut self, model: &GGUFModel, big: bool) {
         self.word(0);
         self.word(model.get_version()[1..].parse().expect("a version's number"));
@@ -84,7 +87,8 @@ impl Stored {
     }
 }
 
-/// What the original says of a file of these bytes, opened by its own function; nothing where it panics.
+/// What the original says of a file of these bytes, opened by its own function; nothing where it
+/// panics.
 fn answer(bytes: &[u8], path: &str) -> Option<(u64, Stored)> {
     std::fs::write(path, bytes).expect("the input's file");
     let big = bytes.get(..4) == Some(&FILE_MAGIC_GGUF_BE.to_le_bytes()[..]);
@@ -97,7 +101,8 @@ fn answer(bytes: &[u8], path: &str) -> Option<(u64, Stored)> {
     Some((u64::from_le_bytes(stored.0[..8].try_into().unwrap()), stored))
 }
 
-/// Whether the counts, where they are there, are those of no more records than rows: the original has no rows.
+/// Whether the counts, where they are there, are those of no more records than rows: the original
+/// has no rows.
 fn counts_fit(bytes: &[u8]) -> bool {
     let big = bytes.starts_with(b"FUGG");
     let number = |place: usize, width: usize| -> u64 {
@@ -127,8 +132,9 @@ struct Sample {
 }
 
 impl Sample {
-    /// Takes an input, unless it is outside the domain, is there already, or there are enough of its answer. Texts that are not
-    /// UTF-8 are outside, and show by the mark that the original puts in their place.
+    /// Takes an input, unless it is outside the domain, is there already, or there are enough of
+    /// its answer. Texts that are not UTF-8 are outside, and show by the mark that the original
+    /// puts in their place.
     fn offer(&mut self, bytes: &[u8]) {
         if bytes.len() > LONGEST || !counts_fit(bytes) || self.seen.contains(bytes) {
             return;
@@ -149,7 +155,8 @@ impl Sample {
     }
 }
 
-/// Writes the sample to a file: how many cases there are, and each as its input and the original's answer. `scratch` is a file for the inputs.
+/// Writes the sample to a file: how many cases there are, and each as its input and the original's
+/// answer. `scratch` is a file for the inputs.
 pub fn write(file: &str, scratch: &str) {
     let mut random = Random::new(0x5EED_0F5A_3B1E_0001);
     let mut sample = Sample { path: scratch.into(), cases: Stored::default(), seen: BTreeSet::new(), taken: BTreeMap::new() };

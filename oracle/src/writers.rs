@@ -11,7 +11,8 @@ extern "C" {
     ) -> u64;
 }
 
-/// The bytes of output that this project's writer is lent, and the most that the original is let write after a header.
+/// The bytes of output that this project's writer is lent, and the most that the original is let
+/// write after a header.
 const ROOM: usize = 1 << 17;
 const MOST_DATA: u128 = 1 << 16;
 
@@ -117,7 +118,8 @@ impl Told {
             _ => 32,
         };
         let mut entries: BTreeMap<String, Said> = (0..random.below(6)).map(|_| (text(random), said(random))).collect();
-        // At times the sheet says an alignment itself, mostly the right one; never where the writer's is too large for the original's own zeros.
+        // At times the sheet says an alignment itself, mostly the right one; never where the
+        // writer's is too large for the original's own zeros.
         if random.below(8) == 0 && alignment < 1 << 32 {
             let own = if random.below(4) == 0 { said(random) } else { Said::One([4, 10][random.below(2) as usize], Item::Scalar(alignment)) };
             entries.insert("general.alignment".into(), own);
@@ -126,7 +128,8 @@ impl Told {
         Told { version, alignment, entries, tensors }
     }
 
-    /// The smallest sheets on which the two differ by intent: an empty array of i8, another alignment, five dimensions.
+    /// The smallest sheets on which the two differ by intent: an empty array of i8, another
+    /// alignment, five dimensions.
     pub fn smallest() -> [Told; 3] {
         let told = |entries, tensors| Told { version: 3, alignment: 32, entries, tensors };
         let aligned = Said::One(4, Item::Scalar(64));
@@ -177,13 +180,15 @@ impl Told {
         sheet
     }
 
-    /// The bytes of the data area, where every tensor has a size: the original writes as many zeros.
+    /// The bytes of the data area, where every tensor has a size: the original writes as many
+    /// zeros.
     fn data(&self) -> Option<u128> {
         let unit = u128::from(self.alignment.max(1));
         self.tensors.iter().try_fold(0, |end: u128, tensor| Some((end + u128::from(calculate_tensor_size(tensor).ok()?)).div_ceil(unit) * unit))
     }
 
-    /// What the original wrote up to the start of the data, or the refusal that its error stands for.
+    /// What the original wrote up to the start of the data, or the refusal that its error stands
+    /// for.
     fn theirs(&self, path: &str) -> Result<Vec<u8>, u64> {
         let mut writer = GGUFWriter::new(path, self.version as i32).map_err(class)?.with_alignment(self.alignment);
         for (key, said) in &self.entries {
@@ -207,7 +212,8 @@ impl Told {
         Ok(bytes)
     }
 
-    /// What this project wrote up to the start of the data, or its refusal. What it must not touch is looked at.
+    /// What this project wrote up to the start of the data, or its refusal. What it must not touch
+    /// is looked at.
     fn ours(&self, sheet: &[u8]) -> Result<Vec<u8>, u64> {
         let mut out = vec![7; ROOM];
         let mut answer = [0; 8];

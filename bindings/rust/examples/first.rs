@@ -1,4 +1,5 @@
-//! A first use, as README.md at the top of the repository has it: the model's family, and which bytes hold each tensor.
+//! A first use, as README.md at the top of the repository has it: the model's family, and which
+//! bytes hold each tensor.
 
 use std::{fs::File, io::Read};
 

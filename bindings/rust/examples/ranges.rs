@@ -2,11 +2,13 @@
 //!
 //!     cargo run --example ranges -- FILE TENSOR [BYTES]
 //!
-//! TENSOR is a tensor's number, counted from 0, or its name; a name that is all digits can be written as `=NAME`. Only the first BYTES
-//! bytes of the file are read (65536 where BYTES is left out).
+//! TENSOR is a tensor's number, counted from 0, or its name; a name that is all digits can be
+//! written as `=NAME`. Only the first BYTES bytes of the file are read (65536 where BYTES is left
+//! out).
 //!
-//! Prints the first byte and the byte after the last, counted from the file's start, and leaves with 0. Leaves with 1 where the file gives
-//! no such range, and says why; where more bytes are wanted, it says so. Leaves with 2 where it was called wrongly or the file can't be read.
+//! Prints the first byte and the byte after the last, counted from the file's start, and leaves
+//! with 0. Leaves with 1 where the file gives no such range, and says why; where more bytes are
+//! wanted, it says so. Leaves with 2 where it was called wrongly or the file can't be read.
 
 use std::error::Error;
 use std::fs::File;
@@ -53,7 +55,8 @@ fn front(path: &str, bytes: u64) -> io::Result<Vec<u8>> {
     Ok(prefix)
 }
 
-/// The bytes of the file that hold a tensor, from the file's front alone, which is `bytes` long if the file is.
+/// The bytes of the file that hold a tensor, from the file's front alone, which is `bytes` long if
+/// the file is.
 fn range(prefix: &[u8], bytes: u64, tensor: &str) -> Result<Range<u64>, Box<dyn Error>> {
     let header = strutpebble::read(prefix).map_err(|refusal| {
         if !refusal.wants_more() {

@@ -61,7 +61,8 @@ pub(crate) fn accepted(number: u64, words: &Words) -> Result<(), Refusal> {
     }
 }
 
-/// How to read: the highest version and kind that are taken, and the cap of a tokenizer's arrays. By default all that there are, and 3.
+/// How to read: the highest version and kind that are taken, and the cap of a tokenizer's arrays.
+/// By default all that there are, and 3.
 ///
 /// ```
 /// use strutpebble::Options;
@@ -95,7 +96,8 @@ impl Options {
         self
     }
 
-    /// Keeps at most so many items of an array under a key that starts with `tokenizer.`. Every item is checked all the same.
+    /// Keeps at most so many items of an array under a key that starts with `tokenizer.`. Every
+    /// item is checked all the same.
     pub const fn cap(mut self, items: u64) -> Options {
         self.cap = items;
         self
@@ -106,16 +108,17 @@ impl Options {
         Summary::of(archive::measure(prefix, self.versions, self.kinds))
     }
 
-    /// Reads a header into rows of the caller's, which stay as they are where it is refused. Nothing is allocated. The columns are those of
-    /// the constants `SP_ENTRY_*` and `SP_TENSOR_*` in the C header; too few rows are refused (6).
+    /// Reads a header into rows of the caller's, which stay as they are where it is refused.
+    /// Nothing is allocated. The columns are those of the constants `SP_ENTRY_*` and `SP_TENSOR_*`
+    /// in the C header; too few rows are refused (6).
     pub fn read_rows(&self, prefix: &[u8], entries: &mut [EntryRow], tensors: &mut [TensorRow]) -> Result<Summary, Refusal> {
         Summary::of(archive::read(prefix, self.versions, self.kinds, self.cap, entries, tensors))
     }
 
     /// Reads a header. Refusal 6 is not given.
     ///
-    /// Rows are allocated once the whole header was found good, as many as it has records in the prefix: a header that merely claims many
-    /// records costs nothing.
+    /// Rows are allocated once the whole header was found good, as many as it has records in the
+    /// prefix: a header that merely claims many records costs nothing.
     pub fn read<'a>(&self, prefix: &'a [u8]) -> Result<Header<'a>, Refusal> {
         let measured = self.measure(prefix)?;
         let mut entries = vec![[0; 7]; measured.entries];
@@ -217,7 +220,8 @@ impl<'a> Header<'a> {
         tensor.range().ok_or(NoRange::Overflow)
     }
 
-    /// Whether the data of every tensor ends inside a file of so many bytes; else the refusal, 20, with the number of the first that does not.
+    /// Whether the data of every tensor ends inside a file of so many bytes; else the refusal, 20,
+    /// with the number of the first that does not.
     pub fn check_ranges(&self, file_length: u64) -> Result<(), Refusal> {
         let (number, words) = archive::check_ranges(&self.tensors, self.summary.data_start, file_length);
         accepted(number, &words)

@@ -1,13 +1,15 @@
 //! GGUF model-file headers, read from the bytes at hand, and written, by proved code.
 //!
-//! Give [`read`] the front of a file, often its first 64 KiB, and it answers with the [`Header`]: its metadata entries, its tensors, and
-//! which bytes of the file hold each tensor; or with a [`Refusal`], a number and a place. Refusal 1 means that the header does not end
-//! inside these bytes: fetch more. Names and strings are parts of the bytes that were given.
+//! Give [`read`] the front of a file, often its first 64 KiB, and it answers with the [`Header`]:
+//! its metadata entries, its tensors, and which bytes of the file hold each tensor; or with a
+//! [`Refusal`], a number and a place. Refusal 1 means that the header does not end inside these
+//! bytes: fetch more. Names and strings are parts of the bytes that were given.
 //!
 //! [`write_header`] writes the header that a [`Sheet`] tells.
 //!
-//! The reading and writing is done by the functions of `libstrutpebble.a`, each of which is proved to answer as the format's definition says, on every
-//! input. This crate turns their numbers into Rust's own types.
+//! The reading and writing is done by the functions of `libstrutpebble.a`, each of which is proved
+//! to answer as the format's definition says, on every input. This crate turns their numbers into
+//! Rust's own types.
 //!
 //! ```
 //! // Two tensors: "a", five f32, and "b", three f16.
@@ -58,7 +60,8 @@ pub fn read(prefix: &[u8]) -> Result<Header<'_>, Refusal> {
     Options::new().read(prefix)
 }
 
-/// Checks a whole header with the default [`Options`] and tells what it says of itself, with nothing allocated.
+/// Checks a whole header with the default [`Options`] and tells what it says of itself, with
+/// nothing allocated.
 pub fn measure(prefix: &[u8]) -> Result<Summary, Refusal> {
     Options::new().measure(prefix)
 }
@@ -68,7 +71,8 @@ const ABSENT: u64 = 100;
 const OTHER_TYPE: u64 = 101;
 const UNKNOWN_FILE_TYPE: u64 = 102;
 
-/// The last entry of a key, with nothing allocated. The whole header is checked with the default [`Options`].
+/// The last entry of a key, with nothing allocated. The whole header is checked with the default
+/// [`Options`].
 pub fn find(prefix: &[u8], key: impl AsRef<[u8]>) -> Result<Option<Entry<'_>>, Refusal> {
     let (number, words) = archive::find(prefix, key.as_ref());
     if number == ABSENT {
@@ -79,7 +83,8 @@ pub fn find(prefix: &[u8], key: impl AsRef<[u8]>) -> Result<Option<Entry<'_>>, R
     Ok(Some(Entry::of_row(prefix, dialect, &words[..7])))
 }
 
-/// The string of a key, with nothing allocated. The whole header is checked with the default [`Options`].
+/// The string of a key, with nothing allocated. The whole header is checked with the default
+/// [`Options`].
 pub fn find_string(prefix: &[u8], key: impl AsRef<[u8]>) -> Result<&[u8], NoString> {
     string_of(prefix, archive::find_string(prefix, key.as_ref()))
 }

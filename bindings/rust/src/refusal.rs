@@ -5,8 +5,9 @@ use std::fmt;
 
 /// A refusal: its number, and its place.
 ///
-/// The place is that of a byte in the prefix, but for number 20 (the range check), where it is the number of a tensor, counted from 0. Of the
-/// writer, [`write_header`](crate::write_header), it is the number of a tensor for 13 to 15, 35 and 36, that of a byte in the sheet for 31, and else 0.
+/// The place is that of a byte in the prefix, but for number 20 (the range check), where it is the
+/// number of a tensor, counted from 0. Of the writer, [`write_header`](crate::write_header), it is
+/// the number of a tensor for 13 to 15, 35 and 36, that of a byte in the sheet for 31, and else 0.
 ///
 /// ```
 /// let refusal = strutpebble::read(b"GGUF").unwrap_err();
@@ -23,7 +24,8 @@ pub struct Refusal {
 }
 
 impl Refusal {
-    /// Whether more bytes of the same file may give another answer. Every other refusal stays, whatever bytes follow.
+    /// Whether more bytes of the same file may give another answer. Every other refusal stays,
+    /// whatever bytes follow.
     pub fn wants_more(&self) -> bool {
         self.number == 1
     }
@@ -64,7 +66,8 @@ impl Refusal {
 
 impl fmt::Display for Refusal {
     fn fmt(&self, f: &mut fmt::Formatter<'_>) -> fmt::Result {
-        // A reader's 13 to 15 are at a byte, and a writer's at a tensor. What is wrong with the writer's arguments is at no place.
+        // A reader's 13 to 15 are at a byte, and a writer's at a tensor. What is wrong with the
+        // writer's arguments is at no place.
         let what = match self.number {
             13..=15 => "",
             20 | 35 | 36 => "tensor ",

@@ -11,14 +11,17 @@ use std::collections::BTreeMap;
 pub struct Written {
     /// The place after the last byte of the header.
     pub header_end: u64,
-    /// Where the data starts. The bytes from the header's end up to here are zeros; the ones after are as they were.
+    /// Where the data starts. The bytes from the header's end up to here are zeros; the ones after
+    /// are as they were.
     pub data_start: u64,
 }
 
-/// Writes the header that a sheet tells at the front of `out`, and zeros up to the start of its data.
+/// Writes the header that a sheet tells at the front of `out`, and zeros up to the start of its
+/// data.
 ///
-/// Where `alignment` is not 32 and the sheet has no `general.alignment`, that key is added. Tensors get their offsets in order, each the least
-/// multiple of the alignment that is not below the end of the one before. A refusal leaves `out` as it was.
+/// Where `alignment` is not 32 and the sheet has no `general.alignment`, that key is added. Tensors
+/// get their offsets in order, each the least multiple of the alignment that is not below the end
+/// of the one before. A refusal leaves `out` as it was.
 ///
 /// ```
 /// use strutpebble::{write_header, ByteOrder, Sheet, Value};
@@ -39,9 +42,11 @@ pub fn write_header(sheet: &[u8], version: u32, byte_order: ByteOrder, alignment
     Ok(Written { header_end: words[0], data_start: words[1] })
 }
 
-/// What a header is to hold, entry by entry; [`bytes`](Sheet::bytes) is the sheet that [`write_header`] takes.
+/// What a header is to hold, entry by entry; [`bytes`](Sheet::bytes) is the sheet that
+/// [`write_header`] takes.
 ///
-/// Entries are sorted by their keys. Whether the sheet is well formed the writer says: this only lays out bytes.
+/// Entries are sorted by their keys. Whether the sheet is well formed the writer says: this only
+/// lays out bytes.
 #[derive(Clone, Debug, Default, PartialEq, Eq, Hash)]
 pub struct Sheet {
     entries: BTreeMap<Vec<u8>, Vec<u8>>,
@@ -54,7 +59,8 @@ impl Sheet {
         Sheet::default()
     }
 
-    /// Adds a metadata entry, in place of one of the same key. An array that was read from a header goes with all its items, whatever the cap.
+    /// Adds a metadata entry, in place of one of the same key. An array that was read from a header
+    /// goes with all its items, whatever the cap.
     pub fn entry(mut self, key: impl AsRef<[u8]>, value: Value<'_>) -> Sheet {
         let mut told = vec![value.value_type() as u8];
         match value {

@@ -82,7 +82,8 @@ impl fmt::Display for Type {
     }
 }
 
-/// A value. Strings are parts of the prefix, as the file has them; nothing says that they are UTF-8.
+/// A value. Strings are parts of the prefix, as the file has them; nothing says that they are
+/// UTF-8.
 #[allow(missing_docs)]
 #[derive(Clone, Copy, Debug, PartialEq)]
 pub enum Value<'a> {
@@ -118,7 +119,8 @@ impl<'a> Value<'a> {
         }
     }
 
-    /// A scalar by its bits, of which those above its width don't count: a row has signed ones in 64 bits.
+    /// A scalar by its bits, of which those above its width don't count: a row has signed ones in
+    /// 64 bits.
     fn scalar(scalar: Type, bits: u64) -> Value<'a> {
         match scalar {
             Type::U8 => Value::U8(bits as u8),
@@ -228,7 +230,8 @@ pub(crate) struct Dialect {
     pub size_width: usize,
 }
 
-/// An array: its items follow one another in the prefix. All of them were checked, the ones that are not kept too.
+/// An array: its items follow one another in the prefix. All of them were checked, the ones that
+/// are not kept too.
 #[derive(Clone, Copy)]
 pub struct Array<'a> {
     item_type: Type,
@@ -255,7 +258,8 @@ impl<'a> Array<'a> {
         self.len == 0
     }
 
-    /// How many items are kept: all, but for a tokenizer's arrays, which the reader's cap cuts ([`Options::cap`](crate::Options::cap)).
+    /// How many items are kept: all, but for a tokenizer's arrays, which the reader's cap cuts
+    /// ([`Options::cap`](crate::Options::cap)).
     pub fn kept(&self) -> u64 {
         self.kept
     }

@@ -1,5 +1,5 @@
-//! The examples, run as programs: `ranges`, which `cargo test` builds, and examples/c/list.c of the repository, which is built here. And
-//! `first`, which README.md at the top of the repository has.
+//! The examples, run as programs: `ranges`, which `cargo test` builds, and examples/c/list.c of the
+//! repository, which is built here. And `first`, which README.md at the top of the repository has.
 
 mod made;
 
@@ -108,7 +108,8 @@ fn the_c_example() {
         file.text("x");
     }
     file.tensor("a", &[5], 0, 0).tensor("b", &[3, 1], 1, 32);
-    // Entries: 24 + 45 + 17 + 17 + 14 + 40 + 9000 * 9 = 81157. The tensors add 33 and 41: the header ends at 81231, the data starts at 81248.
+    // Entries: 24 + 45 + 17 + 17 + 14 + 40 + 9000 * 9 = 81157. The tensors add 33 and 41: the
+    // header ends at 81231, the data starts at 81248.
     let entries = "version 3, little end first, alignment 32, data from 81248 on\n\
                    general.architecture string llama\ni i32 -7\nf f32 1.5\nb bool true\ntokenizer.tokens array of 9000 string\n";
     let a = "a kind 0 [5] 20 bytes from 81248 on\n";

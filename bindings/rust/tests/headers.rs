@@ -1,4 +1,5 @@
-//! Whole headers: what they say of themselves, their tensors, and which bytes of the file hold them.
+//! Whole headers: what they say of themselves, their tensors, and which bytes of the file hold
+//! them.
 
 mod made;
 
@@ -174,7 +175,8 @@ fn rows_of_the_callers() {
     let mut tensors = [[9; 10]; 2];
     let summary = Options::new().read_rows(&file, &mut entries, &mut tensors).unwrap();
     assert_eq!((summary.entries, summary.tensors), (1, 1));
-    // The key's place and length, the type, the value; the name's place and length, kind, dimensions, four lengths, offset, size.
+    // The key's place and length, the type, the value; the name's place and length, kind,
+    // dimensions, four lengths, offset, size.
     assert_eq!(entries, [[32, 1, 4, 7, 0, 0, 0], [9; 7]]);
     assert_eq!(tensors, [[49, 1, 0, 2, 2, 3, 1, 1, 0, 24], [9; 10]]);
 }

@@ -1,7 +1,8 @@
 //! Every refusal that a small file reaches, with its number and its place.
 //!
-//! In version 3 the first record starts at 24. An entry with a key of one byte has its type at 33; a tensor with a name of one byte and one
-//! length has its dimension count at 33 and its kind at 45, and ends at 57.
+//! In version 3 the first record starts at 24. An entry with a key of one byte has its type at 33;
+//! a tensor with a name of one byte and one length has its dimension count at 33 and its kind at
+//! 45, and ends at 57.
 
 mod made;
 
@@ -27,7 +28,8 @@ fn cut_off_1() {
     assert_eq!(refused(&made(3, false, 0, 1).bytes), (1, 24));
     // A string of 2^30 bytes may be there, and is not in this prefix.
     assert_eq!(refused(&made(3, false, 0, 1).size(1 << 30).bytes), (1, 32));
-    // An item that is missing is refused at its own start: items of two bytes from 49 on, the last of three cut in half.
+    // An item that is missing is refused at its own start: items of two bytes from 49 on, the last
+    // of three cut in half.
     assert_eq!(refused(&made(3, false, 0, 1).array("k", 2, 3).number(2, 1).number(2, 2).number(1, 3).bytes), (1, 53));
 }
 
@@ -126,7 +128,8 @@ fn kinds_11_and_12() {
 fn products_and_sizes_13_14_15() {
     assert_eq!(refused(&made(3, false, 1, 0).tensor("t", &[1 << 32, 1 << 32, 0], 0, 0).bytes), (13, 24));
     assert_eq!(refused(&made(3, false, 1, 0).tensor("t", &[1 << 62], 0, 0).bytes), (14, 24));
-    // Kind 24 has one byte for each of its numbers before the division: only the total is too great, at the second tensor.
+    // Kind 24 has one byte for each of its numbers before the division: only the total is too
+    // great, at the second tensor.
     let half = 1 << 63;
     assert_eq!(refused(&made(3, false, 2, 0).tensor("s", &[half], 24, 0).tensor("t", &[half], 24, 0).bytes), (15, 57));
     assert!(read(&made(3, false, 2, 0).tensor("s", &[half], 24, 0).tensor("t", &[half - 1], 24, 0).bytes).is_ok());

@@ -149,7 +149,8 @@ fn arrays_of_strings_and_the_cap() {
 
 #[test]
 fn an_item_after_the_kept_ones_is_checked() {
-    // The fourth item's size is above 2^30. The key is at 32, its type at 53, the first item at 69; each item before has 9 bytes.
+    // The fourth item's size is above 2^30. The key is at 32, its type at 53, the first item at 69;
+    // each item before has 9 bytes.
     let mut file = made(3, false, 0, 1);
     file.array("tokenizer.ggml.tokens", 8, 4).text("a").text("b").text("c").size(u64::MAX);
     let refusal = read(&file.bytes).unwrap_err();

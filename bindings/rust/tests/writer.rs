@@ -1,4 +1,5 @@
-//! Headers that are written: the known numbers, every refusal that a small sheet reaches, and reading back.
+//! Headers that are written: the known numbers, every refusal that a small sheet reaches, and
+//! reading back.
 
 mod made;
 

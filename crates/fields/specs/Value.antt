@@ -15,7 +15,7 @@ widthOf Two = 2
 widthOf Four = 4
 widthOf Eight = 8
 
--- the little end first
+-- the number that bytes stand for, the least byte first
 abbrev pub leValue : List ℕ → ℕ
 leValue [] = 0
 leValue (b ∷ bs) = b + 256 * leValue bs

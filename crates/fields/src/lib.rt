@@ -39,7 +39,7 @@ pub fn bytes_in(width: Width) -> usize
     }
 }
 
-// Four bytes as a number, the little end first: a sum that the compiler turns into one load.
+// Four bytes as a little-endian number: a sum that the compiler turns into one load.
 fn four(a: u8, b: u8, c: u8, d: u8) -> u32
     ensures { λ r. ⌜ r ≡ leValue (a ∷ b ∷ c ∷ d ∷ []) ⌝ }
 {
@@ -61,7 +61,7 @@ fn turned(v: u32) -> u32
     )
 }
 
-// The number of four bytes that are there: one load, and a swap where the big end comes first.
+// The number of four bytes that are there: one load, and a swap where it is big-endian.
 fn four_in(s: &[u8], at: usize, big: bool) -> u32
     requires { ⌜ at + 4 ≤ length (now s) ⌝ }
     ensures { λ r. ⌜ r ≡ value big (take 4 (drop at (now (s .entry)))) ⌝ }

@@ -25,7 +25,7 @@ abbrev pub asHeader : HeaderRead → Answer Header
 asHeader (FoundHeader h) = accepted h (h .end)
 asHeader (NoHeader n p) = refused n p
 
--- what is told of a header that ends at e, where the start of its data fits
+-- the header that ends at e, where the start of its data fits
 abbrev pub headerIfItFits : Start → ℕ → ℕ → HeaderRead
 headerIfItFits c a e = if leb (padded a e) greatest then FoundHeader (headerOf c a e) else NoHeader 18 e
 

@@ -54,7 +54,7 @@ alignmentIn es = fold latestContent 32 es
 
 -- What a reader finds.
 
--- all that is told of a header: its version and byte order, its sheet, its alignment, where it ends
+-- a header in sum: its version and byte order, its contents, its alignment, where it ends
 -- and where its data starts
 pub record Summary : Type 0 where
   pub dialect : Dialect
@@ -63,12 +63,12 @@ pub record Summary : Type 0 where
   pub end : ℕ
   pub start : ℕ
 
--- what is told of the header of a sheet
+-- the header of these contents, summed up
 abbrev pub summaryOf : Dialect → Contents → Summary
 summaryOf k c =
     record { dialect = k; contents = c; alignment = alignmentIn (c .entries); end = length (headerBytes k c); start = padded (alignmentIn (c .entries)) (length (headerBytes k c)) }
 
--- the version and byte order that a header tells
+-- the version and byte order of a header
 abbrev pub dialectIn : Header → Dialect
 dialectIn h = record { version = h .version; big = h .big }
 

@@ -45,7 +45,7 @@ alignmentOf (Array a) = 32
 abbrev pub latest : ℕ → Entry → ℕ
 latest a e = if e .«is_alignment» then alignmentOf (e .value) else a
 
--- what is told of a header: its alignment is a, and it ends at e
+-- what a header says of itself, where its alignment is a and it ends at e
 abbrev pub headerOf : Start → ℕ → ℕ → Header
 headerOf c a e =
     record { version = c .dialect .version; big = c .dialect .big; entries = c .entries; tensors = c .tensors; alignment = a; end = e; start = padded a e }

@@ -41,7 +41,7 @@ ghost use Rattle.header.specs.Format as format;
 // How many entry rows are kept while a header is tested. Nearly all headers have no more entries.
 const KEPT: usize = 64;
 
-// What is told of a header. The counts are the file's own; its data begins at start.
+// What a header says of itself. The counts are the file's own; its data begins at start.
 pub struct Header {
     pub version: u64,
     pub big: bool,
@@ -259,7 +259,7 @@ fn fill_tensors(s: &[u8], at: usize, n: usize, dialect: Dialect, rows: &mut [Ten
     }
 }
 
-// What is told of a header that ends at end: its data starts at the next multiple of its alignment.
+// The answer of a header that ends at end: its data starts at the next multiple of its alignment.
 fn header_if_it_fits(start: Start, alignment: u64, end: usize) -> HeaderRead
     ensures { λ r. ⌜ r ≡ headerIfItFits start alignment end ⌝ }
 {
@@ -285,7 +285,7 @@ fn header_if_it_fits(start: Start, alignment: u64, end: usize) -> HeaderRead
     }
 }
 
-// Tests a whole header and tells what it says of itself, with no row.
+// Tests a whole header and answers what it says of itself, with no row.
 pub fn measure(s: &[u8], limits: Limits, cap: u64, rooms: Rooms) -> HeaderRead
     ensures { λ r. ⌜ asHeader r ≡ seen (λ w. w .head) (run (under limits (format.header rooms cap)) (now (s .entry)) 0) ⌝ }
 {

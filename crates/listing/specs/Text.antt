@@ -20,7 +20,7 @@ use Rattle.rows.specs.Columns.{typeIn, kindIn, lengthsIn, offsetIn, sizeIn}
 abbrev pub space : List ℕ
 space = 32 ∷ []
 
--- " BE" where the big end comes first, and else " LE"
+-- " BE" for a big-endian file, and else " LE"
 abbrev pub orderWord : Bool → List ℕ
 orderWord big = if big then 32 ∷ 66 ∷ 69 ∷ [] else 32 ∷ 76 ∷ 69 ∷ []
 

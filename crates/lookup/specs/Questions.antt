@@ -50,14 +50,14 @@ stringOf s (Found e) = stringIn s (e .value)
 stringOf s Absent = []
 stringOf s (Refused n p) = []
 
--- what tells them apart: 0 a string, 100 absent, 101 another type, else the refusal's number with
--- its place
+-- the status of a value that was found: 0 a string, 101 another type
 abbrev pub typeStatus : Value → List ℕ
 typeStatus (Single x) = 101 ∷ 0 ∷ []
 typeStatus (Text a) = 0 ∷ 0 ∷ []
 typeStatus (Array a) = 101 ∷ 0 ∷ []
 
--- what a string question answers of a lookup, beside the string: two words
+-- the status of a lookup: that of its value, 100 where it is absent, else the refusal's number with
+-- its place
 abbrev pub stringStatus : Lookup → List ℕ
 stringStatus (Found e) = typeStatus (e .value)
 stringStatus Absent = 100 ∷ 0 ∷ []

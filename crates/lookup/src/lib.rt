@@ -42,7 +42,7 @@ pub enum FileTypeRead {
     Refused { why: u64, place: usize },
 }
 
-// The first word of what a string question tells, beside refusals' numbers: a string, no such key,
+// The first word of a string question's status, beside refusals' numbers: a string, no such key,
 // a value of another type.
 pub const STATUS_STRING: u64 = 0;
 
@@ -135,7 +135,7 @@ pub fn string_of(s: &[u8], found: Lookup) -> &[u8]
     }
 }
 
-// What tells a string from 'absent', from another type and from a refusal.
+// The status of a string question: a string, 'absent', another type, or a refusal.
 pub fn string_status(found: Lookup) -> [u64; 2]
     ensures { λ r. ⌜ r ≡ questions.stringStatus found ⌝ }
 {

@@ -15,7 +15,7 @@ use Rattle.layout.specs.Layout.{Piece, nothingLaid, laidAfter}
 use Rattle.values.specs.declared.Dialect.{Dialect}
 use Rattle.values.specs.Format.{isWord, alignmentKey}
 use Rattle.tensors.specs.Format.{lengths}
-use Rattle.values.specs.Contents.{ValueContent, aScalar, aText, EntryContent}
+use Rattle.values.specs.Contents.{aScalar, EntryContent}
 use Rattle.tensors.specs.Contents.{TensorContent, contentOf}
 use Rattle.header.specs.Contents.{Contents, headerBytes, contentAlignment}
 use Rattle.sheet.specs.Format.{SheetEntry, SheetTensor}

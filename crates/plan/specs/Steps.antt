@@ -1,7 +1,7 @@
 -- What the plan's private steps are held to: the tests of planFor from one of them on, and what is
 -- left of a room. No contract of a public function cites it.
 use Prim.Native.Nat.{ℕ, _-_}
-use mathlib.Core.List.{map}
+use mathlib.Core.List.{map, []}
 use lib.Dec.{leb}
 use lib.ListN.{length}
 use Rattle.reading.specs.Choice.{if_then_else_, require}
@@ -15,25 +15,8 @@ use Rattle.plan.specs.declared.Room.the-variants.{Left, Over}
 use Rattle.plan.specs.Header.{ownAlignment, entriesOf, pieceOf, startOf}
 use Rattle.plan.specs.Plan.{canAdd, agrees, laidOf, requireLaid, countsFit, planOf}
 use Rattle.header.specs.Format.{isAlignment}
-use Prim.Native.Nat.{ℕ}
-use mathlib.Core.Bool.{Bool, false, not}
-use mathlib.Core.List.{List, [], _∷_, map}
-use lib.Dec.{eqb}
-use Rattle.reading.specs.Choice.{if_then_else_}
-use Rattle.reading.specs.Each.{fold}
-use Rattle.fields.specs.Order.{before}
 use Rattle.reading.specs.Reading.{Answer, accepted, refused}
-use Rattle.layout.specs.declared.Laid.{Laid}
-use Rattle.layout.specs.Padding.{padded}
-use Rattle.layout.specs.Layout.{Piece, nothingLaid, laidAfter}
-use Rattle.values.specs.Format.{isWord, alignmentKey}
-use Rattle.tensors.specs.Format.{lengths}
-use Rattle.values.specs.Contents.{ValueContent, aScalar, aText, EntryContent}
-use Rattle.tensors.specs.Contents.{TensorContent, contentOf}
-use Rattle.header.specs.Contents.{Contents, headerBytes, contentAlignment}
-use Rattle.sheet.specs.Format.{SheetEntry, SheetTensor}
-use Rattle.plan.specs.declared.OwnAlignment.{OwnAlignment}
-use Rattle.plan.specs.declared.OwnAlignment.the-variants.{Own, Absent}
+use Rattle.values.specs.Contents.{ValueContent, aText}
 
 -- the test of the room
 abbrev pub roomed : Dialect → ℕ → ℕ → Records → Planned

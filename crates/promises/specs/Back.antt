@@ -1,5 +1,5 @@
 -- What the promises over the writer and the reader speak of: what the writer leaves, what the
--- reader tells of bytes, and what it is to tell of those.
+-- reader makes of bytes, and what it is to make of those.
 use Prim.Native.Nat.{ℕ, _≤_}
 use mathlib.Core.List.{List, map}
 use lib.ListN.{length}
@@ -24,7 +24,7 @@ answerFor k a s out = writtenOf (planFor k a (length out) s)
 abbrev pub outputFor : Dialect → ℕ → List ℕ → List ℕ → List ℕ
 outputFor k a s out = leftBy (planFor k a (length out) s) (headerFor k a s) out
 
--- what the full reader tells of bytes, with this cap and these tables
+-- what the full reader makes of bytes, with this cap and these tables, summed up
 abbrev pub readIn : ℕ → List (List ℕ) → List (List ℕ) → List ℕ → Answer Summary
 readIn cap es ts bytes = seen (summaryIn bytes) (readerRun full cap es ts bytes)
 
@@ -41,7 +41,7 @@ piecesIn s = map pieceOf (recordsIn (sheetOf s) .tensors)
 abbrev pub offsetsIn : ℕ → List ℕ → List ℕ
 offsetsIn a s = map (λ (t : TensorContent). t .offset) (contentsFor a s .tensors)
 
--- what is to be told of it, where it ends and its data starts
+-- what it is to be summed up as, where it ends and its data starts
 abbrev pub summaryFor : Dialect → ℕ → List ℕ → ℕ → ℕ → Summary
 summaryFor k a s end start = record { dialect = k; contents = contentsFor a s; alignment = a; end = end; start = start }
 

@@ -52,7 +52,7 @@ const TEXT: u64 = 5;
 
 const LIST: u64 = 6;
 
-// How the sample's own texts are told: a length of four bytes, the little end first.
+// How the sample's own texts are written: a little-endian length of four bytes, and the bytes.
 fn plain() -> Dialect {
     Dialect {
         version: 1,
@@ -106,7 +106,7 @@ fn text_in(input: &[u8], place: u64, len: u64) -> &[u8] {
     )
 }
 
-// The form in which the original tells a scalar of a type.
+// The form in which the original gives a scalar of a type.
 fn form_of(t: u64, word: u64) -> u64 {
     match t {
         1 | 3 | 5 | 11 => {
@@ -144,7 +144,7 @@ fn same_float(answer: &[u8], at: usize, t: u64, word: u64) -> usize {
     }
 }
 
-// A scalar of a type. Of a float that is not finite the original tells nothing else.
+// A scalar of a type. Of a float that is not finite the original says nothing else.
 fn same_scalar(answer: &[u8], at: usize, t: u64, word: u64) -> usize {
     let form = form_of(t, word);
     let p = same_word(answer, at, form);

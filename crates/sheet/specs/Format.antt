@@ -1,8 +1,8 @@
--- The record sheet's entries, as programs of fields. Every number has its big end first, and
+-- The record sheet's entries, as programs of fields. Every number is big-endian, and
 -- lengths come before what they measure.
 --
 -- A program here reads what an entry says, as contents, and where its parts are. Whatever is not
--- well formed is refused; the sheet tells it as refusal 31 at the start of the entry, so that no
+-- well formed is refused; the sheet gives it as refusal 31 at the start of the entry, so that no
 -- number or place of a refusal inside an entry matters.
 use Prim.Native.Nat.{ℕ, zero, suc, _+_, _-_, _^_}
 use mathlib.Core.Bool.{Bool, true}

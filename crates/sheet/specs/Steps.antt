@@ -1,34 +1,20 @@
 -- What the sheet's private steps are held to: their answers, without what an entry says. No
 -- contract of a public function of this crate cites it.
-use Prim.Native.Nat.{ℕ, zero, suc, _+_}
-use mathlib.Core.Bool.{Bool, true}
-use mathlib.Core.List.{List, [], _∷_}
-use lib.Dec.{leb, ltb, eqb}
-use lib.ListN.{length, getD}
+use Prim.Native.Nat.{ℕ}
+use mathlib.Core.List.{List}
+use lib.Dec.{leb}
+use lib.ListN.{length}
 use Rattle.reading.specs.Choice.{if_then_else_}
-use Rattle.fields.specs.Order.{before}
-use Rattle.reading.specs.Reading.{Reading, done, Answer, accepted, refused, run, _>>=_, _>>_, andThen}
+use Rattle.reading.specs.Reading.{Answer, accepted, refused}
 use Rattle.tensors.specs.declared.Shape.{Shape}
-use Rattle.values.specs.Contents.{insideOf}
-use Rattle.sheet.specs.Format.{must, Text, SheetEntry, metadata, SheetTensor, tensor}
 use Rattle.sheet.specs.declared.Stepped.{Stepped}
 use Rattle.sheet.specs.declared.Stepped.the-variants.{To, Bad}
 use Rattle.sheet.specs.declared.Opened.{Opened}
 use Rattle.sheet.specs.declared.Opened.the-variants.{Body, Bad as NotOpened}
-use Rattle.sheet.specs.declared.Before.{Before}
-use Rattle.sheet.specs.declared.Before.the-variants.{None, At}
-use Rattle.sheet.specs.declared.TextFound.{TextFound}
-use Rattle.sheet.specs.declared.TextFound.the-variants.{Found as FoundText, Bad as NoText}
 use Rattle.sheet.specs.declared.ShapeFound.{ShapeFound}
 use Rattle.sheet.specs.declared.ShapeFound.the-variants.{Found as FoundShape, Bad as NoShape}
-use Rattle.sheet.specs.declared.EntryFound.{EntryFound}
-use Rattle.sheet.specs.declared.EntryFound.the-variants.{Found as FoundEntry, Bad as NoEntry}
-use Rattle.sheet.specs.declared.TensorFound.{TensorFound}
-use Rattle.sheet.specs.declared.TensorFound.the-variants.{Found as FoundTensor, Bad as NoTensor}
 use Rattle.sheet.specs.declared.Counted.{Counted}
 use Rattle.sheet.specs.declared.Counted.the-variants.{Counts, Bad as BadEntry}
-use Rattle.sheet.specs.declared.Checked.{Checked}
-use Rattle.sheet.specs.declared.Checked.the-variants.{WellFormed, Bad as BadAt}
 
 -- where an entry's body begins, after its tag, and where it ends, which is inside the sheet
 abbrev pub openedOf : ℕ → Answer ℕ → Opened

@@ -1,7 +1,7 @@
 // The record sheet: metadata entries with ascending keys and then tensors, from which a header is
 // written.
 //
-// `check` tells whether a sheet is well formed and how many records it has; `entry_at` and
+// `check` answers whether a sheet is well formed and how many records it has; `entry_at` and
 // `tensor_at` tell where the parts of one entry are, and `known_entry` those of an entry that was
 // checked before, with no test. Reading a sheet copies nothing: keys, names and values are places
 // in it.
@@ -312,7 +312,7 @@ pub fn entry_at(s: &[u8], at: usize) -> EntryFound
 }
 
 // Where the parts of a metadata entry are that was checked before. It tests nothing and passes no
-// value: the entry's own length tells where it ends.
+// value: the entry's own length says where it ends.
 pub fn known_entry(s: &[u8], at: usize) -> KnownEntry
     requires { ⌜ isAccepted (run format.metadata (now s) at) ≡ true ⌝ }
     ensures { λ r. ⌜ Found (r .parts) (r .next) ≡ sheet.entryOf (run format.metadata (now (s .entry)) at) ⌝ }

@@ -18,7 +18,7 @@ use Rattle.values.specs.Format.{size}
 use Rattle.start.specs.declared.Rooms.{Rooms}
 use Rattle.start.specs.declared.Start.{Start}
 
--- the four bytes that a file begins with, read as a number with the little end first
+-- the four bytes that a file begins with, read as a little-endian number
 abbrev pub littleMagic : ℕ
 littleMagic = 0x46554747
 
@@ -30,7 +30,7 @@ bigMagic = 0x47475546
 abbrev pub olderMagic : ℕ → Bool
 olderMagic m = if eqb m 0x67676d6c then true else if eqb m 0x67676d66 then true else if eqb m 0x67676a74 then true else eqb m 0x67676c61
 
--- the magic: whether the big end comes first
+-- the magic: whether the file is big-endian
 unfoldable pub magic : Reading Bool
 magic = do
   p ← here
@@ -44,7 +44,7 @@ magic = do
 abbrev pub knownVersion : ℕ → Bool
 knownVersion v = if eqb v 0 then false else leb v 3
 
--- the version, in the byte order that the magic told
+-- the version, in the byte order of the magic
 unfoldable pub version : Bool → Reading Dialect
 version big = do
   p ← here

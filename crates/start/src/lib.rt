@@ -49,7 +49,7 @@ fn is_older(magic: u64) -> bool
     }
 }
 
-// The magic: whether the big end comes first.
+// The magic: whether the file is big-endian.
 fn read_magic(s: &[u8]) -> MagicRead
     ensures { λ r. ⌜ asMagic r ≡ run format.magic (now (s .entry)) 0 ⌝ }
 {

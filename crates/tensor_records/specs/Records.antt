@@ -55,7 +55,7 @@ filledFrom [] rows = []
 filledFrom (r ∷ records) [] = r ∷ records
 filledFrom (r ∷ records) (row ∷ rows) = recordOf row ∷ filledFrom records rows
 
--- how many tensors an answer tells of
+-- how many tensors an answer counts
 abbrev pub tensorsIn : HeaderRead → ℕ
 tensorsIn (FoundHeader h) = h .tensors
 tensorsIn (NoHeader n p) = 0

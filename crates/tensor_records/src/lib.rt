@@ -58,7 +58,7 @@ pub fn get(records: &[TensorRecord], i: usize) -> RecordGot
     RecordGot::Nothing
 }
 
-// Stores a record at the number i, and tells whether there is one; else nothing changes.
+// Stores a record at the number i, and answers whether there is one; else nothing changes.
 pub fn put(records: &mut [TensorRecord], i: usize, tensor: TensorRecord) -> bool
     ensures { λ r. ⌜ (r ≡ keptOf (now (records .entry)) i) × (now (records .exit) ≡ putAt (now (records .entry)) i tensor) ⌝ }
 {
@@ -109,7 +109,7 @@ fn record_at(rows: &[TensorRow], i: usize) -> TensorRecord
     record_of(rows[i])
 }
 
-// Fills the first records from the first n rows, as far as there are both, and tells how many it
+// Fills the first records from the first n rows, as far as there are both, and answers how many it
 // filled. The other records stay as they were.
 pub fn fill(records: &mut [TensorRecord], rows: &[TensorRow], n: usize) -> usize
     ensures { λ r. ⌜ (r ≡ min n (min (length (now (rows .entry))) (length (now (records .entry))))) × (now (records .exit) ≡ filledFrom (now (records .entry)) (take n (now (rows .entry)))) ⌝ }
@@ -140,7 +140,7 @@ fn read_within(
     header::read(s, limits, cap, entries, &mut rows[0..end])
 }
 
-// How many tensors an answer tells of.
+// How many tensors an answer counts.
 fn tensors_in(answer: HeaderRead) -> usize
     ensures { λ r. ⌜ r ≡ tensorsIn answer ⌝ }
 {

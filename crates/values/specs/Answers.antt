@@ -29,7 +29,7 @@ abbrev pub asKey : KeyRead → Answer Key
 asKey (FoundKey a q) = accepted a q
 asKey (NoKey n p) = refused n p
 
--- something of which only the place after it is told
+-- something of which only the place after it is kept
 abbrev pub asPassed : Passed → Answer (Unit {0})
 asPassed (To q) = accepted tt q
 asPassed (NotPassed n p) = refused n p

@@ -38,7 +38,7 @@ abbrev pub numberOf : Answer Header → ℕ
 numberOf (accepted h q) = 0
 numberOf (refused n p) = n
 
--- version, byte order (1 for the big end first), entries, tensors, alignment, the header's end, the
+-- version, byte order (1 for big-endian), entries, tensors, alignment, the header's end, the
 -- start of the data, 0; of a refusal its place
 abbrev pub wordsOf : Answer Header → List ℕ
 wordsOf (accepted h q) = h .version ∷ (if h .big then 1 else 0) ∷ h .entries ∷ h .tensors ∷ h .alignment ∷ h .end ∷ h .start ∷ 0 ∷ []
@@ -95,7 +95,7 @@ typeWords (Known n) = oneWord n
 typeWords Unknown = oneWord 0
 typeWords (NotRead n p) = oneWord p
 
--- a version, and the big end first where its number is not 0
+-- a version, big-endian where the second number is not 0
 abbrev pub dialectOf : ℕ → ℕ → Dialect
 dialectOf version big = record { version = version; big = ltb 0 big }
 

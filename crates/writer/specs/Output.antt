@@ -1,17 +1,10 @@
 -- What a writer answers, and what it leaves of its output.
-use Prim.Native.Nat.{ℕ, suc, _+_, _-_}
-use mathlib.Core.List.{List, [], _∷_, _++_}
-use lib.Dec.{ltb}
+use Prim.Native.Nat.{ℕ, _-_}
+use mathlib.Core.List.{List, _++_}
 use lib.ListN.{drop, replicate}
-use Rattle.reading.specs.Choice.{if_then_else_}
-use Rattle.fields.specs.Order.{before}
-use Rattle.reading.specs.Reading.{Answer, accepted, refused}
 use Rattle.values.specs.declared.Dialect.{Dialect}
-use Rattle.values.specs.Format.{alignmentKey}
 use Rattle.header.specs.Contents.{headerBytes}
-use Rattle.sheet.specs.Format.{SheetEntry}
 use Rattle.sheet.specs.Sheet.{sheetOf}
-use Rattle.plan.specs.declared.Draft.{Draft}
 use Rattle.plan.specs.declared.Planned.{Planned}
 use Rattle.plan.specs.declared.Planned.the-variants.{Fine, Refused}
 use Rattle.plan.specs.Header.{headerContents, recordsIn}

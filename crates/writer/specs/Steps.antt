@@ -1,29 +1,20 @@
 -- What the writer's private steps are held to: sizes and counts of what they write. No contract of
 -- a public function cites it.
-use Prim.Native.Nat.{ℕ, suc, _+_, _-_}
-use mathlib.Core.List.{List, [], _∷_, _++_}
+use Prim.Native.Nat.{ℕ, suc, _+_}
+use mathlib.Core.List.{List, [], _∷_}
 use lib.Dec.{ltb}
-use lib.ListN.{drop, replicate}
 use Rattle.reading.specs.Choice.{if_then_else_}
 use Rattle.fields.specs.Order.{before}
 use Rattle.reading.specs.Reading.{Answer, accepted, refused}
-use Rattle.values.specs.declared.Dialect.{Dialect}
 use Rattle.values.specs.Format.{alignmentKey}
-use Rattle.header.specs.Contents.{headerBytes}
 use Rattle.sheet.specs.Format.{SheetEntry}
-use Rattle.sheet.specs.Sheet.{sheetOf}
 use Rattle.plan.specs.declared.Draft.{Draft}
-use Rattle.plan.specs.declared.Planned.{Planned}
-use Rattle.plan.specs.declared.Planned.the-variants.{Fine, Refused}
-use Rattle.plan.specs.Header.{headerContents, recordsIn}
-use Rattle.writer.specs.declared.HeaderWritten.{HeaderWritten}
-use Rattle.writer.specs.declared.HeaderWritten.the-variants.{Written, Refused as NotWritten}
 
 -- how many entries a header has, the added one included
 abbrev pub entryCount : Draft → ℕ
 entryCount d = if d .adds then d .entries + 1 else d .entries
 
--- the bytes of the length at the place i of n, and of a whole shape of n dimensions
+-- the bytes of the length at the place i of n dimensions: none beyond those
 abbrev pub lengthSize : ℕ → ℕ → ℕ
 lengthSize n i = if ltb i n then 8 else 0
 
