@@ -106,9 +106,9 @@ pub extern "C" fn sp_find_string(prefix: &[u8], key: &[u8], answer: &mut [u64; 8
     ensures { λ r. ⌜ r ≡ stringNumber (lookup (now (key .entry)) (now (prefix .entry))) ⌝ }
     ensures { λ r. ⌜ now (answer .exit) ≡ stringWords (lookup (now (key .entry)) (now (prefix .entry))) ⌝ }
 {
-    let found = lookup::find(prefix, key);
-    *answer = words::string_words(found);
-    let status = lookup::string_status(found);
+    let last = lookup::find(prefix, key);
+    *answer = words::string_words(last);
+    let status = lookup::string_status(last);
     status[0]
 }
 
