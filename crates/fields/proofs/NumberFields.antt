@@ -39,10 +39,10 @@ module _ (l : Limits) where
   unfolding Low number
   low-number w big = λ bs. tt
 
--- a number ends right after its bytes, which are there
-pub number-told : (s : List ℕ) (w : ℕ) (big : Bool) (p : ℕ) → Sure s (number w big) p (λ v q. (q ≡ p + w) × (q ≤ length s))
+-- a number is that of its bytes, which are there, and ends right after them
+pub number-told : (s : List ℕ) (w : ℕ) (big : Bool) (p : ℕ) → Sure s (number w big) p (λ v q. (q ≡ p + w) × (q ≤ length s) × (v ≡ value big (take w (drop p s))))
 unfolding number
-number-told s w big p = sure-field (λ there. (refl, there))
+number-told s w big p = sure-field (λ there. (refl, there, ap (value big) (take-take w w (drop p s) (omega arith))))
 
 pub number-within : (w : ℕ) (big : Bool) (s : List ℕ) (at : ℕ) {v q : ℕ} → accepted v q ≡ run (number w big) s at → q ≤ length s
 number-within w big s at {v} {q} e = number-told s w big at .holds v q e .1

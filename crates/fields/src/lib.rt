@@ -13,6 +13,9 @@ ghost use Rattle.fields.specs.Order.{before};
 ghost use Rattle.fields.specs.Value.{asNumber, halves, leValue, number, value, widthOf};
 ghost use Rattle.reading.specs.Reading.{run};
 
+// The greatest number of 64 bits.
+pub const GREATEST: u64 = 18446744073709551615;
+
 // The widths that a number has.
 pub enum Width {
     One,

@@ -1,4 +1,5 @@
 // The kinds of tensor data, and the size of a tensor.
+use fields::GREATEST;
 ghost use mathlib.Core.Path.{_≡_};
 ghost use mathlib.Core.Bool.{true};
 ghost use Prim.Native.Nat.{_*_, _/_, _≤_, _<_};
@@ -26,9 +27,6 @@ pub enum Measure {
     Bytes { product: u64, size: u64 },
     Refused { why: u64 },
 }
-
-// The greatest number of 64 bits.
-const GREATEST: u64 = 18446744073709551615;
 
 // How many numbers a block of a kind holds: none where a number names no kind.
 fn block_size(kind: u64) -> u64

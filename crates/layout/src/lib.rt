@@ -1,12 +1,10 @@
 // Where the data of tensors goes: offsets that are multiples of an alignment.
+use fields::GREATEST;
 use kinds::Bounded;
 use kinds::Measure;
 ghost use mathlib.Core.Path.{_≡_};
 ghost use Rattle.layout.specs.Padding.{paddedOf};
 ghost use Rattle.layout.specs.Layout.{placeOf};
-
-// The greatest number of 64 bits.
-const GREATEST: u64 = 18446744073709551615;
 
 // What is laid so far: the sum of the tensors' counts of numbers, and the offset of the next
 // tensor, which is a multiple of the alignment.

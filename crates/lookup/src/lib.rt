@@ -4,6 +4,7 @@
 // Each question reads the whole header, with the ceilings of the whole format and rows for any
 // count, so that a bad tensor refuses the lookup of a good key. A string comes back as the part of
 // the prefix that holds it.
+use fields::GREATEST;
 use header::HeaderRead;
 use reading::Limits;
 use scalars::Natural;
@@ -97,8 +98,8 @@ pub fn find(s: &[u8], key: &[u8]) -> Lookup
         kinds: 39,
     };
     let rooms = Rooms {
-        entries: 18446744073709551615,
-        tensors: 18446744073709551615,
+        entries: GREATEST,
+        tensors: GREATEST,
     };
     match header::measure(s, limits, 3, rooms) {
         HeaderRead::Refused { why, place } => Lookup::Refused { why, place },

@@ -1,4 +1,5 @@
 // Scalars: the eleven types of single values, their widths, their bits, and their words in a row.
+use fields::GREATEST;
 use fields::Number;
 use fields::Width;
 ghost use Prim.Native.Nat.{_%_, _+_, _<_, _^_, _≤_};
@@ -148,7 +149,7 @@ fn to_bits(x: i64) -> u64
     ensures { λ r. ⌜ r ≡ ofZ w64 x ⌝ }
 {
     if x < 0 {
-        18446744073709551615 - ((-1 - x) as u64)
+        GREATEST - ((-1 - x) as u64)
     } else {
         x as u64
     }

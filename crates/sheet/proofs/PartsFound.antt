@@ -83,15 +83,10 @@ eights (suc (suc (suc (suc zero)))) h = refl
 eights (suc (suc (suc (suc (suc n))))) h = absurd (omega arith)
 
 module _ (s : List ℕ) where
-  -- a number is that of its bytes, which are there, and ends right after them
-  number-stands : (w p : ℕ) → Sure s (number w true) p (λ v q. (q ≡ p + w) × (q ≤ length s) × (v ≡ numberThere s w p))
-  unfolding number
-  number-stands w p = sure-field (λ there. (refl, there, ap (valueOf true) (take-take w w (drop p s) (omega arith))))
-
   -- a scalar ends right after its bytes, which are there
   pub scalar-told : (t p : ℕ) → Sure s (scalar t) p (λ v q. (q ≡ p + scalarWidth t) × (q ≤ length s))
   unfolding scalar
-  scalar-told t p = sure-then (number-stands (scalarWidth t) p) (λ v q h. sure-check (if eqb t 7 then leb v 1 else true) 31 0 _ (λ e. sure-done (h .0, h .1)))
+  scalar-told t p = sure-then (number-told s (scalarWidth t) true p) (λ v q h. sure-check (if eqb t 7 then leb v 1 else true) 31 0 _ (λ e. sure-done (h .0, h .1)))
 
   pub sure-textOf : (n p : ℕ) → Sure s (textOf n) p (TextTold s p)
   unfolding textOf bytes
@@ -101,12 +96,12 @@ module _ (s : List ℕ) where
 
   pub sure-text : (p : ℕ) → Sure s text p (TextTold s (p + 4))
   unfolding text
-  sure-text p = sure-then (number-stands 4 p) (λ n q h. subst (λ r. Sure s (textOf n) q (TextTold s r)) (h .0) (sure-textOf n q))
+  sure-text p = sure-then (number-told s 4 true p) (λ n q h. subst (λ r. Sure s (textOf n) q (TextTold s r)) (h .0) (sure-textOf n q))
 
   -- its length is the number before it
   text-sized : (p : ℕ) → Sure s text p (λ a q. a .span .len ≡ numberThere s 4 p)
   unfolding text textOf
-  text-sized p = sure-then (number-stands 4 p) (λ n q h. sure-check (leb n (2 ^ 30)) 31 0 _ (λ e. sure-here _ (sure-then whatever (λ b r u. sure-done (h .2)))))
+  text-sized p = sure-then (number-told s 4 true p) (λ n q h. sure-check (leb n (2 ^ 30)) 31 0 _ (λ e. sure-here _ (sure-then whatever (λ b r u. sure-done (h .2)))))
 
   -- what a value is has the type that was asked for
   sure-array : (d : ℕ) (item : ℕ → Reading (Content d)) (p : ℕ) → Sure s (array d item) p (λ c q. typeOf c ≡ 9)
@@ -124,7 +119,7 @@ module _ (s : List ℕ) where
   pub sure-opening : (tag p : ℕ) → Sure s (opening tag) p (λ e q. (q ≡ p + 5) × (q ≤ length s) × (e ≡ p + 4 + numberThere s 4 p))
   unfolding opening
   sure-opening tag p =
-      sure-then (number-stands 4 p) (λ n q h. sure-here _ (sure-then (number-stands 1 q) (λ t r g. sure-check (eqb t tag) 31 0 _ (λ e. sure-done (omega (arith, h .0, g .0), g .1, rw (h .0, h .2) refl)))))
+      sure-then (number-told s 4 true p) (λ n q h. sure-here _ (sure-then (number-told s 1 true q) (λ t r g. sure-check (eqb t tag) 31 0 _ (λ e. sure-done (omega (arith, h .0, g .0), g .1, rw (h .0, h .2) refl)))))
 
   -- an entry: what its inner program reads from its tag on, up to the entry's end
   pub sure-framed : {A : Type 0} (tag : ℕ) (inner : ℕ → Reading A) (p : ℕ) → Sure s (framed tag inner) p (λ a q. (p + 5 ≤ length s) × (accepted a q ≡ run (inner q) s (p + 5)) × (q ≡ p + 4 + numberThere s 4 p))
@@ -146,7 +141,7 @@ module _ (s : List ℕ) where
   sure-keyed : (e p : ℕ) → Sure s (entryBody e) (p + 5) (λ l q. e ≡ q → EntryTold s p l q)
   unfolding entryBody
   sure-keyed e p =
-      sure-then (sure-run (sure-text (p + 5))) (λ a q k. let h = k .0 in sure-then (number-stands 1 q) (λ t r g. sure-here _ (sure-then (sure-run (sure-value e t r)) (λ c u i. sure-done (λ j.
+      sure-then (sure-run (sure-text (p + 5))) (λ a q k. let h = k .0 in sure-then (number-told s 1 true q) (λ t r g. sure-here _ (sure-then (sure-run (sure-value e t r)) (λ c u i. sure-done (λ j.
       record {
         starts = omega (arith, h .starts);
         there = omega (arith, h .starts, h .ends, h .there);
@@ -176,12 +171,12 @@ module _ (s : List ℕ) where
   shape-told : (p : ℕ) → Sure s shape p (λ x q. q ≡ p + 1 + 8 * x .dimensions)
   unfolding shape
   shape-told p =
-      sure-then (number-stands 1 p) (λ n q h. sure-check (leb n 4) 31 0 _ (λ e. subst (λ y. Sure s (lengthsOf bigEnd n) q (λ x r. r ≡ y + 8 * x .dimensions)) (h .0) (lengths-told bigEnd n q (leb-true _ _ e))))
+      sure-then (number-told s 1 true p) (λ n q h. sure-check (leb n 4) 31 0 _ (λ e. subst (λ y. Sure s (lengthsOf bigEnd n) q (λ x r. r ≡ y + 8 * x .dimensions)) (h .0) (lengths-told bigEnd n q (leb-true _ _ e))))
 
   sure-drawn : (p : ℕ) → Sure s tensorBody (p + 5) (TensorTold s p)
   unfolding tensorBody
   sure-drawn p =
-      sure-then (sure-text (p + 5)) (λ a q h. sure-then (number-stands 4 q) (λ k r g. sure-then (shape-told r) (λ x u i. sure-done
+      sure-then (sure-text (p + 5)) (λ a q h. sure-then (number-told s 4 true q) (λ k r g. sure-then (shape-told r) (λ x u i. sure-done
       (record {
         starts = omega (arith, h .starts);
         there = omega (arith, h .starts, h .ends, h .there);

@@ -7,11 +7,11 @@ use mathlib.Core.Bool.{Bool, true}
 use native.Mathlib.Omega.{arith}
 use lib.Dec.{leb, ltb}
 use lib.ListN.{length, take, drop}
-use lib.Seq.{take-take}
 use borrow.Author.Tests.{leb-true, ltb-true, ltb-false}
 use Rattle.reading.specs.Back.{Sure}
 use Rattle.reading.specs.Each.{each}
 use Rattle.reading.specs.Reading.{aKind, Answer, accepted, refused, run, here, isAccepted, _>>=_}
+use Rattle.fields.proofs.NumberFields.{number-told}
 use Rattle.fields.specs.Value.{value, number}
 use Rattle.reading.proofs.RunLaws.{goes-on}
 use Rattle.reading.proofs.SureLaws.{sure-then, sure-done, sure-here, sure-mark, sure-check, sure-if, sure-field, sure-so, sure-run, whatever}
@@ -40,8 +40,7 @@ record Field (s : List ℕ) (w : ℕ) (big : Bool) (p v q : ℕ) : Type 0 where
   inside : p + w ≤ length s
 
 sure-there : (s : List ℕ) (w : ℕ) (big : Bool) (p : ℕ) → Sure s (number w big) p (λ v q. Field s w big p v q)
-unfolding number
-sure-there s w big p = sure-field (λ there. record { is = ap (value big) (take-take w w (drop p s) (omega arith)); after = refl; inside = there })
+sure-there s w big p = sure-so (number-told s w big p) (λ v q h. record { is = h .2; after = h .0; inside = subst (λ x. x ≤ length s) (h .0) (h .1) })
 
 -- Names.
 

@@ -2,6 +2,7 @@
 //
 // `read_tensor` tests everything. The steps after it read a tensor again that was accepted before,
 // and test nothing.
+use fields::GREATEST;
 use fields::Number;
 use fields::Width;
 use kinds::Bounded;
@@ -179,7 +180,7 @@ fn fitting_tensor(
     if !kinds::fits(product, kind) {
         return TensorRead::Refused { why: 14, place: at };
     }
-    if 18446744073709551615 - total < product {
+    if GREATEST - total < product {
         return TensorRead::Refused { why: 15, place: at };
     }
     let block = kinds::block_and_type_size(kind);
