@@ -4,8 +4,9 @@
  *     cc -O2 -I include examples/c/list.c target/staticlib/libstrutpebble.a -o target/list
  *     target/list FILE
  *
- * It reads the front of the file, 64 KiB at first, and twice as much each time that the header does not end inside it. It leaves with 0, with 1
- * where the header is refused or a tensor ends after the file, and with 2 where it was called wrongly, the file can't be read, or there is no
+ * It reads the front of the file, 64 KiB at first, and twice as much each time that the header does
+ * not end inside it. It leaves with 0, with 1 where the header is refused or a tensor ends after
+ * the file, and with 2 where it was called wrongly, the file can't be read, or there is no
  * memory. */
 #include <inttypes.h>
 #include <stdio.h>
@@ -56,29 +57,30 @@ static void print_text(const uint8_t *prefix, uint64_t place, uint64_t length) {
     fwrite(prefix + place, 1, length, stdout);
 }
 
-static void print_entry(const uint8_t *prefix, const uint64_t row[SP_ENTRY_WORDS]) {
-    print_text(prefix, row[SP_ENTRY_KEY_PLACE], row[SP_ENTRY_KEY_LENGTH]);
-    printf(" %s ", type_names[row[SP_ENTRY_TYPE]]);
-    if (row[SP_ENTRY_TYPE] == SP_TYPE_STRING) {
-        print_text(prefix, row[SP_ENTRY_VALUE], row[SP_ENTRY_LENGTH]);
+static void print_entry(const uint8_t *prefix, const sp_entry *entry) {
+    print_text(prefix, entry->key_place, entry->key_length);
+    printf(" %s ", type_names[entry->type]);
+    if (entry->type == SP_TYPE_STRING) {
+        print_text(prefix, entry->place, entry->length);
         putchar('\n');
-    } else if (row[SP_ENTRY_TYPE] == SP_TYPE_ARRAY) {
-        printf("of %" PRIu64 " %s\n", row[SP_ENTRY_COUNT], type_names[row[SP_ENTRY_ITEM_TYPE]]);
+    } else if (entry->type == SP_TYPE_ARRAY) {
+        printf("of %" PRIu64 " %s\n", entry->count, type_names[entry->item_type]);
     } else {
-        print_scalar(row[SP_ENTRY_TYPE], row[SP_ENTRY_VALUE]);
+        print_scalar(entry->type, entry->value);
     }
 }
 
-static void print_tensor(const uint8_t *prefix, const uint64_t row[SP_TENSOR_WORDS], uint64_t data_start) {
-    print_text(prefix, row[SP_TENSOR_NAME_PLACE], row[SP_TENSOR_NAME_LENGTH]);
-    printf(" kind %" PRIu64 " [", row[SP_TENSOR_KIND]);
-    for (uint64_t i = 0; i < row[SP_TENSOR_DIMENSIONS]; i++)
-        printf(i ? " %" PRIu64 : "%" PRIu64, row[SP_TENSOR_LENGTHS + i]);
-    printf("] %" PRIu64 " bytes from %" PRIu64 " on\n", row[SP_TENSOR_SIZE], data_start + row[SP_TENSOR_OFFSET]);
+static void print_tensor(const uint8_t *prefix, const sp_tensor *tensor, uint64_t data_start) {
+    print_text(prefix, tensor->name_place, tensor->name_length);
+    printf(" kind %" PRIu64 " [", tensor->kind);
+    for (uint64_t i = 0; i < tensor->dimensions; i++)
+        printf(i ? " %" PRIu64 : "%" PRIu64, tensor->lengths[i]);
+    printf("] %" PRIu64 " bytes from %" PRIu64 " on\n", tensor->size, data_start + tensor->offset);
 }
 
-/* The front of the file that the whole header is in, as far as it can be had, and what sp_measure says of it. */
-static uint8_t *front(FILE *file, size_t *length, uint64_t *refusal, uint64_t answer[SP_ANSWER_WORDS]) {
+/* The front of the file that the whole header is in, as far as it can be had, and what sp_measure
+ * says of it. */
+static uint8_t *front(FILE *file, size_t *length, uint64_t *refusal, uint64_t *answer) {
     size_t room = 65536, had = 0;
     uint8_t *prefix = NULL;
     for (;;) {
@@ -89,7 +91,7 @@ static uint8_t *front(FILE *file, size_t *length, uint64_t *refusal, uint64_t an
         had += fread(prefix + had, 1, room - had, file);
         if (ferror(file))
             fail("list");
-        *refusal = sp_measure(prefix, had, 3, 39, answer);
+        *refusal = sp_measure(prefix, had, SP_ALL_VERSIONS, SP_ALL_KINDS, answer);
         if (*refusal != SP_CUT_OFF || had < room)
             break;
         room *= 2;
@@ -98,26 +100,33 @@ static uint8_t *front(FILE *file, size_t *length, uint64_t *refusal, uint64_t an
     return prefix;
 }
 
-/* Prints all that a header lists, and gives the refusal of the range check. */
-static uint64_t list(const uint8_t *prefix, size_t length, uint64_t file_length, uint64_t answer[SP_ANSWER_WORDS]) {
-    /* The counts are no more than the prefix holds records. One row more, so that no table is empty. */
-    size_t entry_rows = answer[SP_ANSWER_ENTRIES] + 1, tensor_rows = answer[SP_ANSWER_TENSORS] + 1;
-    uint64_t(*entries)[SP_ENTRY_WORDS] = calloc(entry_rows, sizeof *entries);
-    uint64_t(*tensors)[SP_TENSOR_WORDS] = calloc(tensor_rows, sizeof *tensors);
-    if (!entries || !tensors)
+/* Rows that are all 0. The counts are sp_measure's: no more than the prefix holds records. */
+static void *rows(uint64_t count, size_t size) {
+    void *table = calloc(count, size);
+    if (count && !table)
         fail("list");
-    uint64_t refusal = sp_read(prefix, length, 3, 39, 3, entries, entry_rows, tensors, tensor_rows, answer);
+    return table;
+}
+
+/* Prints all that a header lists, and gives the refusal of the range check. */
+static uint64_t list(const uint8_t *prefix, size_t length, uint64_t file_length, uint64_t *answer) {
+    uint64_t entry_count = answer[SP_ANSWER_ENTRIES], tensor_count = answer[SP_ANSWER_TENSORS];
+    sp_entry *entries = rows(entry_count, sizeof *entries);
+    sp_tensor *tensors = rows(tensor_count, sizeof *tensors);
+    uint64_t refusal = sp_read(prefix, length, SP_ALL_VERSIONS, SP_ALL_KINDS, SP_DEFAULT_CAP,
+                               entries, entry_count, tensors, tensor_count, answer);
     if (!refusal) {
-        uint64_t entry_count = answer[SP_ANSWER_ENTRIES], tensor_count = answer[SP_ANSWER_TENSORS], start = answer[SP_ANSWER_DATA_START];
-        printf("version %" PRIu64 ", %s end first, alignment %" PRIu64 ", data from %" PRIu64 " on\n", answer[SP_ANSWER_VERSION],
-               answer[SP_ANSWER_BIG_ENDIAN] ? "big" : "little", answer[SP_ANSWER_ALIGNMENT], start);
+        uint64_t start = answer[SP_ANSWER_DATA_START];
+        printf("version %" PRIu64 ", %s-endian, alignment %" PRIu64 ", data from %" PRIu64 " on\n",
+               answer[SP_ANSWER_VERSION], answer[SP_ANSWER_BIG_ENDIAN] ? "big" : "little",
+               answer[SP_ANSWER_ALIGNMENT], start);
         for (uint64_t i = 0; i < entry_count; i++)
-            print_entry(prefix, entries[i]);
+            print_entry(prefix, &entries[i]);
         /* Before any sum of a start and an offset is made: past this check none wraps. */
         refusal = sp_check_ranges(tensors, tensor_count, start, file_length, answer);
         uint64_t inside = refusal ? answer[SP_ANSWER_TENSOR] : tensor_count;
         for (uint64_t i = 0; i < inside; i++)
-            print_tensor(prefix, tensors[i], start);
+            print_tensor(prefix, &tensors[i], start);
     }
     free(tensors);
     free(entries);
@@ -141,7 +150,8 @@ int main(int count, char **words) {
         refusal = list(prefix, length, (uint64_t)ftell(file), answer);
     }
     if (refusal)
-        printf("refused %" PRIu64 " at %" PRIu64 "\n", refusal, answer[SP_ANSWER_PLACE]);
+        printf("refused %" PRIu64 " at %" PRIu64 ": %s\n", refusal, answer[SP_ANSWER_PLACE],
+               sp_reason(refusal));
     free(prefix);
     fclose(file);
     return refusal ? 1 : 0;

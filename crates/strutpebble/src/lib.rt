@@ -1,9 +1,10 @@
 // The functions that C and other languages link: numbers and slices only, thin over the proved
 // crates. include/strutpebble.h declares them.
 //
-// Each returns 0, or a number that says why there is no answer: a refusal's, or a STATUS_ constant
-// of lookup or of words. Each writes all eight words of the answer that it was lent: the answer's
-// own, or of a refusal its place and seven zeros.
+// Each but sp_version returns 0, or a number that says why there is no answer: a refusal's, or a
+// STATUS_ constant of lookup or of words. Each writes all eight words of the answer that it was
+// lent: the answer's own, or of a refusal its place and seven zeros.
+use fields::GREATEST;
 use reading::Limits;
 use rows::EntryRow;
 use rows::TensorRow;
@@ -21,6 +22,15 @@ ghost use Rattle.tensors.specs.Rows.{tensorRow};
 ghost use Rattle.values.specs.Rows.{entryRow};
 ghost use Rattle.words.specs.Words.{dialectOf, entryNumber, entryWords, measured, numberOf, rangeNumber, rangeWords, stringNumber, stringWords, typeNumber, typeWords, wordsOf, writtenNumber, writtenWords};
 ghost use Rattle.writer.specs.Output.{headerFor, leftBy, writtenOf};
+
+// The library's version as one number: 1000000 times its first part, 1000 times its second, and its
+// third. A caller compares it with the header file that it was built with.
+#[no_mangle]
+pub extern "C" fn sp_version() -> u64
+    ensures { λ r. ⌜ r ≡ 1000 ⌝ }
+{
+    1000
+}
 
 // The ceilings of a reader: the highest version and the highest kind that it takes.
 fn ceilings(versions: u32, kinds: u32) -> Limits
@@ -62,8 +72,8 @@ pub extern "C" fn sp_measure(prefix: &[u8], versions: u32, kinds: u32, answer: &
     ensures { λ r. ⌜ now (answer .exit) ≡ wordsOf (measured (record { versions = versions; kinds = kinds }) (now (prefix .entry))) ⌝ }
 {
     let rooms = Rooms {
-        entries: 18446744073709551615,
-        tensors: 18446744073709551615,
+        entries: GREATEST,
+        tensors: GREATEST,
     };
     let read = header::measure(prefix, ceilings(versions, kinds), 3, rooms);
     *answer = words::words_of(read);

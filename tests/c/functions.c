@@ -1,0 +1,117 @@
+/* The exported functions as C has them: structs, words, null pointers, reasons, versions. Leaves
+ * with 0 where all is as it must be; a line on standard error says what is not. */
+#include <stdio.h>
+#include <string.h>
+#include "strutpebble.h"
+
+static int failed;
+
+#define CHECK(fact)                                                            \
+    do {                                                                       \
+        if (!(fact)) {                                                         \
+            fprintf(stderr, "%s:%d: not so: %s\n", __FILE__, __LINE__, #fact); \
+            failed = 1;                                                        \
+        }                                                                      \
+    } while (0)
+
+/* The sheet of README.md: one tensor "b", three 16-bit floats. */
+static const uint8_t sheet[] = {1, 0, 0, 0, 0x13, 2, 0, 0, 0, 1, 'b', 0, 0, 0, 1, 1,
+                                0, 0, 0, 0, 0, 0, 0, 3};
+
+/* An empty sheet's header, with the key general.alignment. */
+static const uint8_t empty_sheet[] = {1};
+
+static void a_tensor_is_a_struct(void) {
+    uint8_t file[128];
+    uint64_t answer[SP_ANSWER_WORDS];
+    sp_tensor tensors[1];
+    CHECK(sp_write(sheet, sizeof sheet, 3, 0, 32, file, sizeof file, answer) == 0);
+    CHECK(answer[SP_WRITTEN_END] == 57 && answer[SP_WRITTEN_DATA_START] == 64);
+    CHECK(sp_read(file, 57, SP_ALL_VERSIONS, SP_ALL_KINDS, SP_DEFAULT_CAP, NULL, 0, tensors, 1,
+                  answer) == 0);
+    CHECK(answer[SP_ANSWER_VERSION] == 3 && answer[SP_ANSWER_DATA_START] == 64);
+    CHECK(tensors[0].name_length == 1 && file[tensors[0].name_place] == 'b');
+    CHECK(tensors[0].kind == 1 && tensors[0].dimensions == 1 && tensors[0].lengths[0] == 3);
+    CHECK(tensors[0].lengths[3] == 1 && tensors[0].offset == 0 && tensors[0].size == 6);
+    const uint64_t *words = (const uint64_t *)tensors;
+    CHECK(words[SP_TENSOR_SIZE] == 6 && words[SP_TENSOR_NAME_LENGTH] == 1);
+    CHECK(sp_check_ranges(tensors, 1, 64, 70, answer) == 0);
+    CHECK(sp_check_ranges(tensors, 1, 64, 69, answer) == SP_PAST_THE_FILE && answer[0] == 0);
+}
+
+static void an_entry_is_a_struct(void) {
+    uint8_t file[128];
+    uint64_t answer[SP_ANSWER_WORDS];
+    sp_entry entries[1], found;
+    CHECK(sp_write(empty_sheet, 1, 3, 1, 64, file, sizeof file, answer) == 0);
+    CHECK(sp_read(file, answer[SP_WRITTEN_END], SP_ALL_VERSIONS, SP_ALL_KINDS, SP_DEFAULT_CAP,
+                  entries, 1, NULL, 0, answer) == 0);
+    CHECK(answer[SP_ANSWER_BIG_ENDIAN] == 1 && answer[SP_ANSWER_ALIGNMENT] == 64);
+    CHECK(entries[0].type == SP_TYPE_U32 && entries[0].value == 64);
+    CHECK(entries[0].key_length == 17);
+    CHECK(memcmp(file + entries[0].key_place, "general.alignment", 17) == 0);
+    CHECK(sp_find(file, sizeof file, (const uint8_t *)"general.alignment", 17, answer) == 0);
+    memcpy(&found, answer, sizeof found);
+    CHECK(memcmp(&found, entries, sizeof found) == 0);
+}
+
+static void null_is_no_bytes(void) {
+    uint64_t answer[SP_ANSWER_WORDS];
+    uint8_t file[64];
+    CHECK(sp_measure(NULL, 0, 3, 39, answer) == SP_CUT_OFF && answer[0] == 0);
+    CHECK(sp_read(NULL, 0, 3, 39, 3, NULL, 0, NULL, 0, answer) == SP_CUT_OFF);
+    CHECK(sp_find(NULL, 0, NULL, 0, answer) == SP_CUT_OFF);
+    CHECK(sp_find_string(NULL, 0, NULL, 0, answer) == SP_CUT_OFF);
+    CHECK(sp_model_family(NULL, 0, answer) == SP_CUT_OFF);
+    CHECK(sp_file_type(NULL, 0, answer) == SP_CUT_OFF);
+    CHECK(sp_check_ranges(NULL, 0, 1, 0, answer) == 0);
+    CHECK(sp_write(NULL, 0, 3, 0, 32, NULL, 0, answer) == SP_BAD_SHEET && answer[0] == 0);
+    CHECK(sp_write(empty_sheet, 1, 3, 0, 32, NULL, 0, answer) == SP_OUTPUT_TOO_SHORT);
+    CHECK(sp_write(empty_sheet, 1, 3, 0, 32, file, sizeof file, answer) == 0);
+    CHECK(sp_read(file, 24, 3, 39, 3, NULL, 0, NULL, 0, answer) == 0);
+    CHECK(sp_measure(file, 24, 3, 39, answer) == 0);
+    CHECK(sp_find(file, 24, NULL, 0, answer) == SP_ABSENT);
+    CHECK(sp_find_string(file, 24, NULL, 0, answer) == SP_ABSENT);
+}
+
+static void ceilings_hold(void) {
+    uint64_t answer[SP_ANSWER_WORDS];
+    uint8_t file[128];
+    CHECK(sp_write(sheet, sizeof sheet, 3, 0, 32, file, sizeof file, answer) == 0);
+    CHECK(sp_measure(file, 57, 2, 39, answer) == SP_VERSION_ABOVE_CEILING && answer[0] == 4);
+    CHECK(sp_measure(file, 57, 3, 0, answer) == SP_KIND_ABOVE_CEILING && answer[0] == 45);
+    CHECK(sp_read(file, 57, 3, 39, 3, NULL, 0, NULL, 0, answer) == SP_TOO_FEW_ROWS);
+}
+
+/* Every number has words of its own, and what is no number has others. */
+static void reasons(void) {
+    static const uint64_t numbers[] = {0,  1,  2,  3,  4,  5,  6,  7,  8,  9,   10,  11, 12,
+                                       13, 14, 15, 18, 20, 30, 31, 32, 33, 34,  35,  36, 37,
+                                       38, 100, 101, 102};
+    size_t count = sizeof numbers / sizeof *numbers;
+    for (size_t i = 0; i < count; i++) {
+        CHECK(strcmp(sp_reason(numbers[i]), sp_reason(999)) != 0);
+        for (size_t j = 0; j < i; j++)
+            CHECK(strcmp(sp_reason(numbers[i]), sp_reason(numbers[j])) != 0);
+    }
+    CHECK(strcmp(sp_reason(16), sp_reason(UINT64_MAX)) == 0);
+}
+
+static void versions_agree(void) {
+    char text[32];
+    snprintf(text, sizeof text, "%d.%d.%d", SP_VERSION_MAJOR, SP_VERSION_MINOR, SP_VERSION_PATCH);
+    CHECK(strcmp(text, SP_VERSION) == 0);
+    CHECK(SP_VERSION_NUMBER ==
+          SP_VERSION_MAJOR * 1000000 + SP_VERSION_MINOR * 1000 + SP_VERSION_PATCH);
+    CHECK(sp_version() == SP_VERSION_NUMBER);
+}
+
+int main(void) {
+    a_tensor_is_a_struct();
+    an_entry_is_a_struct();
+    null_is_no_bytes();
+    ceilings_hold();
+    reasons();
+    versions_agree();
+    return failed;
+}
