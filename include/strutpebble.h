@@ -72,37 +72,33 @@ static inline const char *sp_reason(uint64_t number) {
     switch (number) {
     case 0: return "no refusal";
     case SP_CUT_OFF: return "the header does not end inside these bytes: fetch more";
-    case SP_OLDER_FORMAT: return "this is a file of a format before GGUF";
-    case SP_NOT_GGUF: return "this is no GGUF file";
+    case SP_OLDER_FORMAT: return "the file has a format that came before GGUF";
+    case SP_NOT_GGUF: return "this is not a GGUF file";
     case SP_UNKNOWN_VERSION: return "the version is not 1, 2 or 3";
-    case SP_VERSION_ABOVE_CEILING: return "the version is above the highest that is taken";
+    case SP_VERSION_ABOVE_CEILING: return "the version is above the highest that is accepted";
     case SP_TOO_FEW_ROWS: return "there are more tensors, or more entries, than rows for them";
     case SP_STRING_TOO_LONG: return "a string has more than 2^30 bytes";
     case SP_UNKNOWN_TYPE: return "there is no such type of value";
-    case SP_NESTED_ARRAY: return "an array's items are arrays";
+    case SP_NESTED_ARRAY: return "the items of an array are arrays";
     case SP_TOO_MANY_DIMENSIONS: return "a tensor has more than 4 dimensions";
     case SP_UNKNOWN_KIND: return "there is no such kind of tensor";
-    case SP_KIND_ABOVE_CEILING: return "a tensor's kind is above the highest that is taken";
-    case SP_PRODUCT_OVERFLOW: return "the product of a tensor's lengths is above 2^64 - 1";
-    case SP_SIZE_OVERFLOW: return "a tensor's size is above 2^64 - 1 before its division";
-    case SP_TOTAL_OVERFLOW:
-        return "the products of all tensors' lengths up to this one come to more than 2^64 - 1";
+    case SP_KIND_ABOVE_CEILING: return "the kind of a tensor is above the highest that is accepted";
+    case SP_PRODUCT_OVERFLOW: return "the product of the tensor's lengths is above 2^64 - 1";
+    case SP_SIZE_OVERFLOW: return "the tensor's size is above 2^64 - 1 before its division";
+    case SP_TOTAL_OVERFLOW: return "the tensors up to this one have more than 2^64 - 1 numbers";
     case SP_DATA_START_OVERFLOW: return "the data would start above 2^64 - 1";
-    case SP_PAST_THE_FILE: return "the tensor's data ends after the file";
+    case SP_PAST_THE_FILE: return "the tensor's data ends after the end of the file";
     case SP_VERSION_NOT_WRITTEN: return "the version to write is not 1, 2 or 3";
     case SP_BAD_SHEET: return "the sheet is not well formed";
     case SP_BAD_ALIGNMENT: return "the alignment is 0 or not a multiple of 8";
-    case SP_ALIGNMENT_TOO_LARGE:
-        return "the alignment is above 2^32 - 1, and general.alignment must be added";
-    case SP_OTHER_ALIGNMENT:
-        return "the sheet's general.alignment gives a reader another alignment";
-    case SP_KIND_NOT_WRITTEN: return "a kind of tensor that is not written";
+    case SP_ALIGNMENT_TOO_LARGE: return "an alignment above 2^32 - 1 can't be added to the header";
+    case SP_OTHER_ALIGNMENT: return "the sheet's general.alignment gives another alignment";
+    case SP_KIND_NOT_WRITTEN: return "tensors of this kind are not written";
     case SP_OFFSET_OVERFLOW: return "the tensor's data, padded, would end above 2^64 - 1";
-    case SP_COUNT_OVERFLOW:
-        return "there are more tensors, or more entries, than version 1 can count";
+    case SP_COUNT_OVERFLOW: return "version 1 can't count so many tensors or entries";
     case SP_OUTPUT_TOO_SHORT: return "the output is too short for the header and its padding";
     case SP_ABSENT: return "no entry has this key";
-    case SP_OTHER_TYPE: return "the value of this key is no string";
+    case SP_OTHER_TYPE: return "the value of this key is not a string";
     case SP_UNKNOWN_FILE_TYPE: return "the file's type is unknown";
     default: return "no such number";
     }
