@@ -15,7 +15,7 @@ use std::fs::File;
 use std::io::{self, Read};
 use std::ops::Range;
 use std::process::ExitCode;
-use strutpebble::NoRange;
+use strutpebble::RangeError;
 
 const USAGE: &str = "usage: ranges FILE TENSOR [BYTES]";
 const FRONT: u64 = 65536;
@@ -72,5 +72,5 @@ fn range(prefix: &[u8], bytes: u64, tensor: &str) -> Result<Range<u64>, Box<dyn 
         (None, Ok(index)) => header.range_of(index),
         (None, Err(_)) => header.range_of_name(tensor),
     };
-    range.map_err(|error: NoRange| error.into())
+    range.map_err(|error: RangeError| error.into())
 }

@@ -1,7 +1,7 @@
 //! The archive's functions, each behind a safe one. All `unsafe` of this crate is here.
 //!
-//! A slice goes as its pointer and its count. Rust's pointer of an empty slice is not null, which
-//! is what the archive asks.
+//! A slice is passed as its pointer and its count. Rust's pointer of an empty slice is not null,
+//! which the archive asks for.
 
 /// The words of an entry's row; the constants `SP_ENTRY_*` of the C header name them.
 pub type EntryRow = [u64; 7];
@@ -9,11 +9,18 @@ pub type EntryRow = [u64; 7];
 /// The words of a tensor's row; the constants `SP_TENSOR_*` of the C header name them.
 pub type TensorRow = [u64; 10];
 
-/// What every function writes beside the number that it returns.
+/// What every function writes beside the number that it returns: the answer's words, or the place
+/// of a refusal and zeros.
 pub type Words = [u64; 8];
 
 extern "C" {
-    fn sp_measure(prefix: *const u8, prefix_len: usize, versions: u32, kinds: u32, answer: *mut Words) -> u64;
+    fn sp_measure(
+        prefix: *const u8,
+        prefix_len: usize,
+        versions: u32,
+        kinds: u32,
+        answer: *mut Words,
+    ) -> u64;
     fn sp_read(
         prefix: *const u8,
         prefix_len: usize,
@@ -26,11 +33,29 @@ extern "C" {
         tensor_rows: usize,
         answer: *mut Words,
     ) -> u64;
-    fn sp_find(prefix: *const u8, prefix_len: usize, key: *const u8, key_len: usize, answer: *mut Words) -> u64;
-    fn sp_find_string(prefix: *const u8, prefix_len: usize, key: *const u8, key_len: usize, answer: *mut Words) -> u64;
+    fn sp_find(
+        prefix: *const u8,
+        prefix_len: usize,
+        key: *const u8,
+        key_len: usize,
+        answer: *mut Words,
+    ) -> u64;
+    fn sp_find_string(
+        prefix: *const u8,
+        prefix_len: usize,
+        key: *const u8,
+        key_len: usize,
+        answer: *mut Words,
+    ) -> u64;
     fn sp_model_family(prefix: *const u8, prefix_len: usize, answer: *mut Words) -> u64;
     fn sp_file_type(prefix: *const u8, prefix_len: usize, answer: *mut Words) -> u64;
-    fn sp_check_ranges(tensors: *const TensorRow, tensor_rows: usize, start: u64, length: u64, answer: *mut Words) -> u64;
+    fn sp_check_ranges(
+        tensors: *const TensorRow,
+        tensor_rows: usize,
+        start: u64,
+        length: u64,
+        answer: *mut Words,
+    ) -> u64;
     fn sp_write(
         sheet: *const u8,
         sheet_len: usize,
@@ -44,9 +69,9 @@ extern "C" {
 }
 
 /// The number that a function returns, and the words that it wrote.
-pub type Told = (u64, Words);
+pub type Answer = (u64, Words);
 
-pub fn measure(prefix: &[u8], versions: u32, kinds: u32) -> Told {
+pub fn measure(prefix: &[u8], versions: u32, kinds: u32) -> Answer {
     let mut words = [0; 8];
     // SAFETY: the pointer and the length are those of one slice, which is only read; the words are
     // this function's own.
@@ -54,7 +79,14 @@ pub fn measure(prefix: &[u8], versions: u32, kinds: u32) -> Told {
     (number, words)
 }
 
-pub fn read(prefix: &[u8], versions: u32, kinds: u32, cap: u64, entries: &mut [EntryRow], tensors: &mut [TensorRow]) -> Told {
+pub fn read(
+    prefix: &[u8],
+    versions: u32,
+    kinds: u32,
+    cap: u64,
+    entries: &mut [EntryRow],
+    tensors: &mut [TensorRow],
+) -> Answer {
     let mut words = [0; 8];
     // SAFETY: each pointer goes with its own slice's length; the tables are borrowed mutably, so
     // that they overlap neither each other nor the prefix, which is only read; the words are this
@@ -76,23 +108,26 @@ pub fn read(prefix: &[u8], versions: u32, kinds: u32, cap: u64, entries: &mut [E
     (number, words)
 }
 
-pub fn find(prefix: &[u8], key: &[u8]) -> Told {
+pub fn find(prefix: &[u8], key: &[u8]) -> Answer {
     let mut words = [0; 8];
     // SAFETY: each pointer goes with its own slice's length, and both slices are only read; the
     // words are this function's own.
-    let number = unsafe { sp_find(prefix.as_ptr(), prefix.len(), key.as_ptr(), key.len(), &mut words) };
+    let number =
+        unsafe { sp_find(prefix.as_ptr(), prefix.len(), key.as_ptr(), key.len(), &mut words) };
     (number, words)
 }
 
-pub fn find_string(prefix: &[u8], key: &[u8]) -> Told {
+pub fn find_string(prefix: &[u8], key: &[u8]) -> Answer {
     let mut words = [0; 8];
     // SAFETY: each pointer goes with its own slice's length, and both slices are only read; the
     // words are this function's own.
-    let number = unsafe { sp_find_string(prefix.as_ptr(), prefix.len(), key.as_ptr(), key.len(), &mut words) };
+    let number = unsafe {
+        sp_find_string(prefix.as_ptr(), prefix.len(), key.as_ptr(), key.len(), &mut words)
+    };
     (number, words)
 }
 
-pub fn model_family(prefix: &[u8]) -> Told {
+pub fn model_family(prefix: &[u8]) -> Answer {
     let mut words = [0; 8];
     // SAFETY: the pointer and the length are those of one slice, which is only read; the words are
     // this function's own.
@@ -100,7 +135,7 @@ pub fn model_family(prefix: &[u8]) -> Told {
     (number, words)
 }
 
-pub fn file_type(prefix: &[u8]) -> Told {
+pub fn file_type(prefix: &[u8]) -> Answer {
     let mut words = [0; 8];
     // SAFETY: the pointer and the length are those of one slice, which is only read; the words are
     // this function's own.
@@ -108,18 +143,86 @@ pub fn file_type(prefix: &[u8]) -> Told {
     (number, words)
 }
 
-pub fn check_ranges(tensors: &[TensorRow], start: u64, length: u64) -> Told {
+pub fn check_ranges(tensors: &[TensorRow], start: u64, length: u64) -> Answer {
     let mut words = [0; 8];
     // SAFETY: the pointer and the length are those of one slice, which is only read; the words are
     // this function's own.
-    let number = unsafe { sp_check_ranges(tensors.as_ptr(), tensors.len(), start, length, &mut words) };
+    let number =
+        unsafe { sp_check_ranges(tensors.as_ptr(), tensors.len(), start, length, &mut words) };
     (number, words)
 }
 
-pub fn write(sheet: &[u8], version: u32, big: bool, alignment: u64, out: &mut [u8]) -> Told {
+pub fn write(sheet: &[u8], version: u32, big: bool, alignment: u64, out: &mut [u8]) -> Answer {
     let mut words = [0; 8];
     // SAFETY: each pointer goes with its own slice's length; the output is borrowed mutably, so
     // that it does not overlap the sheet, which is only read; the words are this function's own.
-    let number = unsafe { sp_write(sheet.as_ptr(), sheet.len(), version, big.into(), alignment, out.as_mut_ptr(), out.len(), &mut words) };
+    let number = unsafe {
+        sp_write(
+            sheet.as_ptr(),
+            sheet.len(),
+            version,
+            big.into(),
+            alignment,
+            out.as_mut_ptr(),
+            out.len(),
+            &mut words,
+        )
+    };
     (number, words)
+}
+
+#[cfg(test)]
+mod tests {
+    use super::*;
+
+    /// The tensors a and b, five f32 and three f16, in version 3.
+    const A_AND_B: &[u8; 90] = b"GGUF\x03\0\0\0\x02\0\0\0\0\0\0\0\0\0\0\0\0\0\0\0\
+        \x01\0\0\0\0\0\0\0a\x01\0\0\0\x05\0\0\0\0\0\0\0\0\0\0\0\0\0\0\0\0\0\0\0\
+        \x01\0\0\0\0\0\0\0b\x01\0\0\0\x03\0\0\0\0\0\0\0\x01\0\0\0\x20\0\0\0\0\0\0\0";
+
+    /// An answer of this number with these words in front and zeros after them.
+    fn answer<const N: usize>(number: u64, front: [u64; N]) -> Answer {
+        let mut words = [0; 8];
+        words[..N].copy_from_slice(&front);
+        (number, words)
+    }
+
+    #[test]
+    fn words_of_an_accepted_header() {
+        let said = answer(0, [3, 0, 0, 2, 32, 90, 96]);
+        assert_eq!(measure(A_AND_B, 3, 39), said);
+        let mut tensors = [[9; 10]; 3];
+        assert_eq!(read(A_AND_B, 3, 39, 3, &mut [], &mut tensors), said);
+        let a = [32, 1, 0, 1, 5, 1, 1, 1, 0, 20];
+        let b = [65, 1, 1, 1, 3, 1, 1, 1, 32, 6];
+        assert_eq!(tensors, [a, b, [9; 10]]);
+        assert_eq!(check_ranges(&tensors[..2], 96, 134), answer(0, []));
+        assert_eq!(check_ranges(&tensors[..2], 96, 133), answer(20, [1]));
+    }
+
+    #[test]
+    fn words_of_refusals_and_of_questions() {
+        for end in 78..82 {
+            let said = answer(1, [78]);
+            assert_eq!(measure(&A_AND_B[..end], 3, 39), said);
+            assert_eq!(read(&A_AND_B[..end], 3, 39, 3, &mut [], &mut [[0; 10]; 2]), said);
+            assert_eq!(find(&A_AND_B[..end], b"k"), said);
+            assert_eq!(find_string(&A_AND_B[..end], b"k"), said);
+            assert_eq!(model_family(&A_AND_B[..end]), said);
+            assert_eq!(file_type(&A_AND_B[..end]), said);
+        }
+        assert_eq!(find(A_AND_B, b"k"), answer(100, []));
+        assert_eq!(find_string(A_AND_B, b"k"), answer(100, []));
+        assert_eq!(model_family(A_AND_B), answer(100, []));
+        assert_eq!(file_type(A_AND_B), answer(102, []));
+    }
+
+    #[test]
+    fn words_of_the_writer() {
+        let mut out = [7; 40];
+        assert_eq!(write(&[1], 3, false, 32, &mut out), answer(0, [24, 32]));
+        assert_eq!(out[32..], [7; 8]);
+        assert_eq!(write(&[1, 0], 3, false, 32, &mut out), answer(31, [1]));
+        assert_eq!(write(&[1], 3, false, 32, &mut out[..31]), answer(38, []));
+    }
 }

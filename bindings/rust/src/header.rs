@@ -1,18 +1,14 @@
-//! A header that was read, its entries and its tensors.
+//! Reading a header, and the header that was read.
 
-use crate::archive::{self, EntryRow, TensorRow, Told, Words};
-use crate::refusal::{NoRange, Refusal};
-use crate::value::{Dialect, Value};
-use std::iter::FusedIterator;
-use std::ops::Range;
-
-/// The order of the bytes of a file's numbers.
-#[allow(missing_docs)]
-#[derive(Clone, Copy, Debug, PartialEq, Eq, Hash)]
-pub enum ByteOrder {
-    Little,
-    Big,
-}
+use crate::archive::{self, Answer, EntryRow, TensorRow, Words};
+use crate::error::RangeError;
+use crate::front::{ByteOrder, Claim, Dialect};
+use crate::records::{Entries, Entry, Tensor, Tensors};
+use crate::refusal::Refusal;
+use crate::value::Value;
+use alloc::vec;
+use alloc::vec::Vec;
+use core::ops::Range;
 
 /// What a header says of itself.
 #[derive(Clone, Copy, Debug, PartialEq, Eq, Hash)]
@@ -34,9 +30,8 @@ pub struct Summary {
 }
 
 impl Summary {
-    /// What the archive told: the summary, or the refusal.
-    fn of((number, words): Told) -> Result<Summary, Refusal> {
-        accepted(number, &words)?;
+    fn of(answer: Answer) -> Result<Summary, Refusal> {
+        let words = accepted(answer)?;
         Ok(Summary {
             version: words[0] as u32,
             byte_order: if words[1] == 0 { ByteOrder::Little } else { ByteOrder::Big },
@@ -48,28 +43,29 @@ impl Summary {
         })
     }
 
-    pub(crate) fn dialect(&self) -> Dialect {
-        Dialect { byte_order: self.byte_order, size_width: if self.version == 1 { 4 } else { 8 } }
+    fn dialect(&self) -> Dialect {
+        Dialect::new(self.byte_order, self.version.into())
     }
 }
 
-/// Nothing where the number is 0, and else the refusal.
-pub(crate) fn accepted(number: u64, words: &Words) -> Result<(), Refusal> {
+/// The words of the reader's answer, or its refusal.
+pub(crate) fn accepted((number, words): Answer) -> Result<Words, Refusal> {
     match number {
-        0 => Ok(()),
-        _ => Err(Refusal { number, place: words[0] }),
+        0 => Ok(words),
+        _ => Err(Refusal::of_reader(number, words[0])),
     }
 }
 
-/// How to read: the highest version and kind that are taken, and the cap of a tokenizer's arrays.
-/// By default all that there are, and 3.
+/// How to read: the highest version and kind that are accepted, and how many items of a tokenizer's
+/// arrays are kept. By default every version and kind that there is, and 3 items.
 ///
 /// ```
-/// use strutpebble::Options;
+/// use strutpebble::{Options, Reason};
 ///
 /// let empty = b"GGUF\x03\0\0\0\0\0\0\0\0\0\0\0\0\0\0\0\0\0\0\0";
 /// assert!(Options::new().read(empty).is_ok());
-/// assert_eq!(Options::new().highest_version(2).read(empty).unwrap_err().number, 5);
+/// let refusal = Options::new().highest_version(2).read(empty).unwrap_err();
+/// assert_eq!(refusal.reason(), Reason::VersionAboveCeiling);
 /// ```
 #[derive(Clone, Copy, Debug, PartialEq, Eq, Hash)]
 pub struct Options {
@@ -90,7 +86,7 @@ impl Options {
         self
     }
 
-    /// Refuses (12) a kind above this one.
+    /// Refuses (12) a kind whose number is above this one.
     pub const fn highest_kind(mut self, kind: u32) -> Options {
         self.kinds = kind;
         self
@@ -103,26 +99,46 @@ impl Options {
         self
     }
 
-    /// Checks a whole header and tells what it says of itself. Nothing is allocated.
+    /// Checks a whole header, and gives what it says of itself. Nothing is allocated.
     pub fn measure(&self, prefix: &[u8]) -> Result<Summary, Refusal> {
         Summary::of(archive::measure(prefix, self.versions, self.kinds))
     }
 
-    /// Reads a header into rows of the caller's, which stay as they are where it is refused.
-    /// Nothing is allocated. The columns are those of the constants `SP_ENTRY_*` and `SP_TENSOR_*`
-    /// in the C header; too few rows are refused (6).
-    pub fn read_rows(&self, prefix: &[u8], entries: &mut [EntryRow], tensors: &mut [TensorRow]) -> Result<Summary, Refusal> {
+    /// Reads a header into the caller's rows, which stay as they are where it is refused. Nothing
+    /// is allocated. The columns are those of the constants `SP_ENTRY_*` and `SP_TENSOR_*` in the C
+    /// header; too few rows are refused (6).
+    pub fn read_rows(
+        &self,
+        prefix: &[u8],
+        entries: &mut [EntryRow],
+        tensors: &mut [TensorRow],
+    ) -> Result<Summary, Refusal> {
         Summary::of(archive::read(prefix, self.versions, self.kinds, self.cap, entries, tensors))
     }
 
-    /// Reads a header. Refusal 6 is not given.
+    /// Reads a header. Refusal 6 is never given.
     ///
-    /// Rows are allocated once the whole header was found good, as many as it has records in the
-    /// prefix: a header that merely claims many records costs nothing.
+    /// The archive's reader is called once, with as many rows as the counts at the front of the
+    /// file claim; it passes the entries once where there are at most 64 of them, and else twice,
+    /// and the tensors twice. Where the prefix could not hold so many records, no rows are
+    /// allocated, and the archive's measuring pass finds the refusal.
+    ///
+    /// So a header that merely claims many records costs nothing, and rows take less than 4.4 bytes
+    /// for each byte of the prefix (less than 6.3 in version 1, whose records can be shorter): 56
+    /// bytes for each entry and 80 for each tensor. Nothing else is allocated.
     pub fn read<'a>(&self, prefix: &'a [u8]) -> Result<Header<'a>, Refusal> {
-        let measured = self.measure(prefix)?;
-        let mut entries = vec![[0; 7]; measured.entries];
-        let mut tensors = vec![[0; 10]; measured.tensors];
+        let claim = match Claim::of_front(prefix) {
+            Some(claim) => claim,
+            // An accepted header has its front and all its records in the prefix, none of them
+            // shorter than the shortest: then there is a claim. So this is a refusal. If it were
+            // not, the counts that were measured would be the right ones.
+            None => {
+                let measured = self.measure(prefix)?;
+                Claim { entries: measured.entries, tensors: measured.tensors }
+            }
+        };
+        let mut entries = vec![[0; 7]; claim.entries];
+        let mut tensors = vec![[0; 10]; claim.tensors];
         let summary = self.read_rows(prefix, &mut entries, &mut tensors)?;
         Ok(Header { prefix, summary, entries, tensors })
     }
@@ -176,27 +192,31 @@ impl<'a> Header<'a> {
 
     /// The entries, in the order of the file.
     pub fn entries(&self) -> Entries<'a, '_> {
-        Entries { prefix: self.prefix, dialect: self.summary.dialect(), rows: self.entries.iter() }
+        let dialect = self.summary.dialect();
+        Entries { prefix: self.prefix, dialect, rows: self.entries.iter() }
     }
 
     /// The tensors, in the order of the file.
     pub fn tensors(&self) -> Tensors<'a, '_> {
-        Tensors { prefix: self.prefix, data_start: self.summary.data_start, rows: self.tensors.iter() }
+        let data_start = self.summary.data_start;
+        Tensors { prefix: self.prefix, data_start, rows: self.tensors.iter() }
     }
 
     /// The value of a key. Of equal keys the last decides.
     pub fn get(&self, key: impl AsRef<[u8]>) -> Option<Value<'a>> {
-        self.entries().rfind(|entry| entry.key() == key.as_ref()).map(|entry| entry.value())
+        let key = key.as_ref();
+        self.entries().rfind(|entry| entry.key() == key).map(|entry: Entry| entry.value())
     }
 
     /// The model's family, the string of `general.architecture`.
     pub fn model_family(&self) -> Option<&'a [u8]> {
-        crate::model_family(self.prefix).ok()
+        self.get("general.architecture")?.as_bytes()
     }
 
-    /// The file's type, from 0 to 24; `None` where it is unknown.
+    /// The file's type: an integer from 0 to 24 under `general.file_type`; `None` where there is no
+    /// such integer.
     pub fn file_type(&self) -> Option<u64> {
-        crate::file_type(self.prefix).ok().flatten()
+        self.get("general.file_type")?.as_u64().filter(|number| *number <= 24)
     }
 
     /// The tensor of a number, counted from 0.
@@ -206,171 +226,29 @@ impl<'a> Header<'a> {
 
     /// The first tensor of a name, with its number.
     pub fn find_tensor(&self, name: impl AsRef<[u8]>) -> Option<(usize, Tensor<'a>)> {
-        self.tensors().enumerate().find(|(_, tensor)| tensor.name() == name.as_ref())
+        let name = name.as_ref();
+        self.tensors().enumerate().find(|(_, tensor)| tensor.name() == name)
     }
 
     /// The bytes of the file that hold the tensor of a number.
-    pub fn range_of(&self, index: usize) -> Result<Range<u64>, NoRange> {
-        self.tensor(index).ok_or(NoRange::NoSuchTensor)?.range().ok_or(NoRange::Overflow)
+    pub fn range_of(&self, index: usize) -> Result<Range<u64>, RangeError> {
+        let tensor = self.tensor(index).ok_or(RangeError::NoSuchTensor)?;
+        tensor.range().ok_or(RangeError::Overflow)
     }
 
     /// The bytes of the file that hold the first tensor of a name.
-    pub fn range_of_name(&self, name: impl AsRef<[u8]>) -> Result<Range<u64>, NoRange> {
-        let (_, tensor) = self.find_tensor(name).ok_or(NoRange::NoSuchTensor)?;
-        tensor.range().ok_or(NoRange::Overflow)
+    pub fn range_of_name(&self, name: impl AsRef<[u8]>) -> Result<Range<u64>, RangeError> {
+        let (_, tensor) = self.find_tensor(name).ok_or(RangeError::NoSuchTensor)?;
+        tensor.range().ok_or(RangeError::Overflow)
     }
 
     /// Whether the data of every tensor ends inside a file of so many bytes; else the refusal, 20,
-    /// with the number of the first that does not.
+    /// with the first tensor whose data does not.
     pub fn check_ranges(&self, file_length: u64) -> Result<(), Refusal> {
-        let (number, words) = archive::check_ranges(&self.tensors, self.summary.data_start, file_length);
-        accepted(number, &words)
-    }
-}
-
-/// A metadata entry.
-#[derive(Clone, Copy, Debug, PartialEq)]
-pub struct Entry<'a> {
-    key: &'a [u8],
-    value: Value<'a>,
-}
-
-impl<'a> Entry<'a> {
-    pub(crate) fn of_row(prefix: &'a [u8], dialect: Dialect, row: &[u64]) -> Entry<'a> {
-        Entry { key: &prefix[row[0] as usize..][..row[1] as usize], value: Value::of_words(prefix, dialect, &row[2..]) }
-    }
-
-    /// The key, as the file has it.
-    pub fn key(&self) -> &'a [u8] {
-        self.key
-    }
-
-    /// The value.
-    pub fn value(&self) -> Value<'a> {
-        self.value
-    }
-}
-
-/// A tensor.
-#[derive(Clone, Copy, Debug, PartialEq, Eq)]
-pub struct Tensor<'a> {
-    name: &'a [u8],
-    kind: u32,
-    dimensions: usize,
-    shape: [u64; 4],
-    offset: u64,
-    size: u64,
-    data_start: u64,
-}
-
-impl<'a> Tensor<'a> {
-    fn of_row(prefix: &'a [u8], data_start: u64, row: &TensorRow) -> Tensor<'a> {
-        Tensor {
-            name: &prefix[row[0] as usize..][..row[1] as usize],
-            kind: row[2] as u32,
-            dimensions: row[3] as usize,
-            shape: [row[4], row[5], row[6], row[7]],
-            offset: row[8],
-            size: row[9],
-            data_start,
+        let start = self.summary.data_start;
+        match archive::check_ranges(&self.tensors, start, file_length) {
+            (0, _) => Ok(()),
+            (number, words) => Err(Refusal::of_range_check(number, words[0])),
         }
     }
-
-    /// The name, as the file has it.
-    pub fn name(&self) -> &'a [u8] {
-        self.name
-    }
-
-    /// The number of its kind (0 for f32, 1 for f16, ..).
-    pub fn kind(&self) -> u32 {
-        self.kind
-    }
-
-    /// Its lengths, as many as it has dimensions.
-    pub fn lengths(&self) -> &[u64] {
-        &self.shape[..self.dimensions]
-    }
-
-    /// Its four lengths, of which those beyond its dimensions are 1.
-    pub fn shape(&self) -> [u64; 4] {
-        self.shape
-    }
-
-    /// Where its data starts, counted from the start of the data.
-    pub fn offset(&self) -> u64 {
-        self.offset
-    }
-
-    /// How many bytes its data has.
-    pub fn size(&self) -> u64 {
-        self.size
-    }
-
-    /// The bytes of the file that hold its data; `None` where they would end above 2^64 - 1.
-    pub fn range(&self) -> Option<Range<u64>> {
-        let start = self.data_start.checked_add(self.offset)?;
-        Some(start..start.checked_add(self.size)?)
-    }
 }
-
-/// An iterator over the entries of a header.
-#[derive(Clone, Debug)]
-pub struct Entries<'a, 'h> {
-    prefix: &'a [u8],
-    dialect: Dialect,
-    rows: std::slice::Iter<'h, EntryRow>,
-}
-
-/// An iterator over the tensors of a header.
-#[derive(Clone, Debug)]
-pub struct Tensors<'a, 'h> {
-    prefix: &'a [u8],
-    data_start: u64,
-    rows: std::slice::Iter<'h, TensorRow>,
-}
-
-impl<'a> Iterator for Entries<'a, '_> {
-    type Item = Entry<'a>;
-
-    fn next(&mut self) -> Option<Entry<'a>> {
-        self.rows.next().map(|row| Entry::of_row(self.prefix, self.dialect, row))
-    }
-
-    fn size_hint(&self) -> (usize, Option<usize>) {
-        self.rows.size_hint()
-    }
-}
-
-impl DoubleEndedIterator for Entries<'_, '_> {
-    fn next_back(&mut self) -> Option<Self::Item> {
-        self.rows.next_back().map(|row| Entry::of_row(self.prefix, self.dialect, row))
-    }
-}
-
-impl ExactSizeIterator for Entries<'_, '_> {}
-impl FusedIterator for Entries<'_, '_> {}
-
-impl<'a> Iterator for Tensors<'a, '_> {
-    type Item = Tensor<'a>;
-
-    fn next(&mut self) -> Option<Tensor<'a>> {
-        self.rows.next().map(|row| Tensor::of_row(self.prefix, self.data_start, row))
-    }
-
-    fn size_hint(&self) -> (usize, Option<usize>) {
-        self.rows.size_hint()
-    }
-
-    fn nth(&mut self, n: usize) -> Option<Tensor<'a>> {
-        self.rows.nth(n).map(|row| Tensor::of_row(self.prefix, self.data_start, row))
-    }
-}
-
-impl DoubleEndedIterator for Tensors<'_, '_> {
-    fn next_back(&mut self) -> Option<Self::Item> {
-        self.rows.next_back().map(|row| Tensor::of_row(self.prefix, self.data_start, row))
-    }
-}
-
-impl ExactSizeIterator for Tensors<'_, '_> {}
-impl FusedIterator for Tensors<'_, '_> {}

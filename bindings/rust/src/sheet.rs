@@ -1,56 +1,43 @@
-//! A header to write: the sheet that tells it, and the writer.
+//! Sheets: what a header to write is to hold.
 
-use crate::archive;
-use crate::header::{accepted, ByteOrder};
-use crate::refusal::Refusal;
+use crate::error::{SheetError, WriteError};
+use crate::kind::Kind;
 use crate::value::{Type, Value};
-use std::collections::BTreeMap;
+use crate::writer::{WriteOptions, Written};
+use alloc::collections::BTreeMap;
+use alloc::vec;
+use alloc::vec::Vec;
 
-/// Where a header that was written ends.
-#[derive(Clone, Copy, Debug, PartialEq, Eq, Hash)]
-pub struct Written {
-    /// The place after the last byte of the header.
-    pub header_end: u64,
-    /// Where the data starts. The bytes from the header's end up to here are zeros; the ones after
-    /// are as they were.
-    pub data_start: u64,
-}
-
-/// Writes the header that a sheet tells at the front of `out`, and zeros up to the start of its
-/// data.
+/// What a header is to hold, entry by entry and tensor by tensor.
 ///
-/// Where `alignment` is not 32 and the sheet has no `general.alignment`, that key is added. Tensors
-/// get their offsets in order, each the least multiple of the alignment that is not below the end
-/// of the one before. A refusal leaves `out` as it was.
+/// Entries are sorted by their keys, and tensors stay in the order in which they are added. A sheet
+/// remembers the first entry or tensor that it can't hold, and gives that [`SheetError`] where its
+/// bytes are asked for: at [`bytes`](Sheet::bytes), [`write`](Sheet::write) and
+/// [`to_vec`](Sheet::to_vec). Whether the header can be written, the writer says.
 ///
 /// ```
-/// use strutpebble::{write_header, ByteOrder, Sheet, Value};
+/// use strutpebble::{Kind, Sheet, Value};
 ///
-/// let sheet = Sheet::new().entry("general.architecture", Value::String(b"llama")).tensor("a", 0, &[5]).tensor("b", 1, &[3]);
+/// let sheet = Sheet::new()
+///     .entry("general.architecture", Value::String(b"llama"))
+///     .tensor("a", Kind::F32, &[5])
+///     .tensor("b", Kind::F16, &[3]);
 /// let mut file = [0; 256];
-/// let written = write_header(&sheet.bytes(), 3, ByteOrder::Little, 32, &mut file)?;
+/// let written = sheet.write(&mut file)?;
 ///
 /// let header = strutpebble::read(&file[..written.header_end as usize])?;
 /// assert_eq!(header.model_family(), Some(&b"llama"[..]));
 /// assert_eq!(header.data_start(), written.data_start);
 /// assert_eq!(header.tensors().map(|tensor| tensor.offset()).collect::<Vec<_>>(), [0, 32]);
-/// # Ok::<(), strutpebble::Refusal>(())
+/// # Ok::<(), Box<dyn std::error::Error>>(())
 /// ```
-pub fn write_header(sheet: &[u8], version: u32, byte_order: ByteOrder, alignment: u64, out: &mut [u8]) -> Result<Written, Refusal> {
-    let (number, words) = archive::write(sheet, version, byte_order == ByteOrder::Big, alignment, out);
-    accepted(number, &words)?;
-    Ok(Written { header_end: words[0], data_start: words[1] })
-}
-
-/// What a header is to hold, entry by entry; [`bytes`](Sheet::bytes) is the sheet that
-/// [`write_header`] takes.
-///
-/// Entries are sorted by their keys. Whether the sheet is well formed the writer says: this only
-/// lays out bytes.
 #[derive(Clone, Debug, Default, PartialEq, Eq, Hash)]
 pub struct Sheet {
+    /// The records of the entries, by their keys.
     entries: BTreeMap<Vec<u8>, Vec<u8>>,
+    /// The records of the tensors.
     tensors: Vec<Vec<u8>>,
+    error: Option<SheetError>,
 }
 
 impl Sheet {
@@ -60,102 +47,196 @@ impl Sheet {
     }
 
     /// Adds a metadata entry, in place of one of the same key. An array that was read from a header
-    /// goes with all its items, whatever the cap.
-    pub fn entry(mut self, key: impl AsRef<[u8]>, value: Value<'_>) -> Sheet {
-        let mut told = vec![value.value_type() as u8];
+    /// is added with all its items, whatever the reader's cap was.
+    pub fn entry(self, key: impl AsRef<[u8]>, value: Value<'_>) -> Sheet {
+        let key = key.as_ref();
         match value {
-            Value::Array(array) => items(&mut told, array.item_type(), array.iter_all()),
-            other => scalar(&mut told, other),
+            Value::Array(array) => self.array(key, array.item_type(), array.iter_all()),
+            single => self.with_entry(key, single_record(key, single)),
         }
-        self.entries.insert(key.as_ref().to_vec(), told);
-        self
     }
 
-    /// Adds an entry whose value is an array.
-    ///
-    /// # Panics
-    ///
-    /// Where an item is not of the type, or is an array.
-    pub fn array<'v>(mut self, key: impl AsRef<[u8]>, item_type: Type, values: impl IntoIterator<Item = Value<'v>>) -> Sheet {
-        let mut told = vec![Type::Array as u8];
-        items(&mut told, item_type, values.into_iter());
-        self.entries.insert(key.as_ref().to_vec(), told);
-        self
+    /// Adds an entry whose value is an array, in place of one of the same key. Every item must be
+    /// of the item type, and none may be an array.
+    pub fn array<'v>(
+        self,
+        key: impl AsRef<[u8]>,
+        item_type: Type,
+        items: impl IntoIterator<Item = Value<'v>>,
+    ) -> Sheet {
+        let key = key.as_ref();
+        self.with_entry(key, array_record(key, item_type, items))
     }
 
     /// Adds a tensor after the others.
-    pub fn tensor(mut self, name: impl AsRef<[u8]>, kind: u32, lengths: &[u64]) -> Sheet {
-        let mut told = vec![2];
-        text(&mut told, name.as_ref());
-        told.extend(kind.to_be_bytes());
-        // More than 4 are refused, so that a count above 255 need not be told.
-        told.push(lengths.len().min(255) as u8);
-        told.extend(lengths.iter().flat_map(|length| length.to_be_bytes()));
-        self.tensors.push(told);
+    pub fn tensor(
+        mut self,
+        name: impl AsRef<[u8]>,
+        kind: impl Into<Kind>,
+        lengths: &[u64],
+    ) -> Sheet {
+        match tensor_record(name.as_ref(), kind.into(), lengths) {
+            Ok(record) => self.tensors.push(record),
+            Err(error) => self.remember(error),
+        }
         self
     }
 
-    /// The sheet's bytes.
-    ///
-    /// # Panics
-    ///
-    /// Where a length is above 2^32 - 1, which a sheet cannot tell.
-    pub fn bytes(&self) -> Vec<u8> {
+    fn with_entry(mut self, key: &[u8], record: Result<Vec<u8>, SheetError>) -> Sheet {
+        match record {
+            Ok(record) => drop(self.entries.insert(key.to_vec(), record)),
+            Err(error) => self.remember(error),
+        }
+        self
+    }
+
+    /// Keeps an error, unless there was one before.
+    fn remember(&mut self, error: SheetError) {
+        self.error.get_or_insert(error);
+    }
+
+    /// The sheet's bytes, as [`write_header`](crate::write_header) takes them.
+    pub fn bytes(&self) -> Result<Vec<u8>, SheetError> {
+        if let Some(error) = &self.error {
+            return Err(error.clone());
+        }
         let mut bytes = vec![1];
-        for (key, value) in &self.entries {
-            let mut told = vec![1];
-            text(&mut told, key);
-            told.extend(value);
-            text(&mut bytes, &told);
+        for record in self.entries.values().chain(&self.tensors) {
+            // No record is longer than 2^32 - 1 bytes (`Record::push`).
+            bytes.extend((record.len() as u32).to_be_bytes());
+            bytes.extend(record);
         }
-        self.tensors.iter().for_each(|told| text(&mut bytes, told));
-        bytes
+        Ok(bytes)
+    }
+
+    /// Writes the header at the front of `out` with the default [`WriteOptions`]: version 3,
+    /// little-endian, alignment 32.
+    pub fn write(&self, out: &mut [u8]) -> Result<Written, WriteError> {
+        WriteOptions::new().write(self, out)
+    }
+
+    /// The header, and zeros up to the start of its data, with the default [`WriteOptions`].
+    pub fn to_vec(&self) -> Result<Vec<u8>, WriteError> {
+        WriteOptions::new().to_vec(self)
     }
 }
 
-/// A length in four bytes.
-fn count(out: &mut Vec<u8>, n: usize) {
-    out.extend(u32::try_from(n).expect("a length above 2^32 - 1").to_be_bytes());
+/// The record of an entry whose value is a scalar or a string.
+fn single_record(key: &[u8], value: Value<'_>) -> Result<Vec<u8>, SheetError> {
+    let mut record = Record::new(1, key)?;
+    record.push(&[value.value_type() as u8])?;
+    record.value(value)?;
+    Ok(record.bytes)
 }
 
-/// Bytes behind their length.
-fn text(out: &mut Vec<u8>, bytes: &[u8]) {
-    count(out, bytes.len());
-    out.extend(bytes);
-}
-
-/// A scalar in its own width, or a string with nothing in front of it.
-fn scalar(out: &mut Vec<u8>, value: Value<'_>) {
-    match value {
-        Value::U8(n) => out.push(n),
-        Value::I8(n) => out.extend(n.to_be_bytes()),
-        Value::U16(n) => out.extend(n.to_be_bytes()),
-        Value::I16(n) => out.extend(n.to_be_bytes()),
-        Value::U32(n) => out.extend(n.to_be_bytes()),
-        Value::I32(n) => out.extend(n.to_be_bytes()),
-        Value::F32(x) => out.extend(x.to_bits().to_be_bytes()),
-        Value::Bool(yes) => out.push(yes.into()),
-        Value::String(bytes) => out.extend(bytes),
-        Value::U64(n) => out.extend(n.to_be_bytes()),
-        Value::I64(n) => out.extend(n.to_be_bytes()),
-        Value::F64(x) => out.extend(x.to_bits().to_be_bytes()),
-        Value::Array(_) => panic!("an array is no item"),
+/// The record of an entry whose value is an array.
+fn array_record<'v>(
+    key: &[u8],
+    item_type: Type,
+    items: impl IntoIterator<Item = Value<'v>>,
+) -> Result<Vec<u8>, SheetError> {
+    let mut record = Record::new(1, key)?;
+    record.push(&[Type::Array as u8, item_type as u8])?;
+    let count_at = record.bytes.len();
+    record.push(&[0; 4])?;
+    let mut count: u32 = 0;
+    for item in items {
+        record.item(item_type, item)?;
+        // Every item takes a byte of the record or more, so their count fits as its length does.
+        count += 1;
     }
+    record.bytes[count_at..][..4].copy_from_slice(&count.to_be_bytes());
+    Ok(record.bytes)
 }
 
-/// The item type, the count and the items of an array.
-fn items<'v>(out: &mut Vec<u8>, item_type: Type, values: impl Iterator<Item = Value<'v>>) {
-    let mut told = vec![];
-    let mut n = 0;
-    for value in values {
-        assert_eq!(value.value_type(), item_type, "an item of another type");
+/// The record of a tensor.
+fn tensor_record(name: &[u8], kind: Kind, lengths: &[u64]) -> Result<Vec<u8>, SheetError> {
+    let mut record = Record::new(2, name)?;
+    record.push(&kind.number().to_be_bytes())?;
+    // More than 4 are refused by the writer, so a count above 255 need not be right.
+    record.push(&[lengths.len().min(255) as u8])?;
+    for length in lengths {
+        record.push(&length.to_be_bytes())?;
+    }
+    Ok(record.bytes)
+}
+
+/// A record of a sheet while it is laid out. Its length is one that four bytes can say.
+struct Record<'n> {
+    name: &'n [u8],
+    bytes: Vec<u8>,
+}
+
+impl<'n> Record<'n> {
+    /// A record that starts with a byte for what it describes, and a name behind its length.
+    fn new(described: u8, name: &'n [u8]) -> Result<Record<'n>, SheetError> {
+        let mut record = Record { name, bytes: vec![described] };
+        record.text(name)?;
+        Ok(record)
+    }
+
+    fn push(&mut self, bytes: &[u8]) -> Result<(), SheetError> {
+        total_length(self.bytes.len(), bytes.len())?;
+        self.bytes.extend_from_slice(bytes);
+        Ok(())
+    }
+
+    /// Bytes behind their length.
+    fn text(&mut self, text: &[u8]) -> Result<(), SheetError> {
+        let length = total_length(0, text.len())?;
+        self.push(&length.to_be_bytes())?;
+        self.push(text)
+    }
+
+    /// A scalar in its own width, or a string with nothing in front of it.
+    fn value(&mut self, value: Value<'_>) -> Result<(), SheetError> {
         match value {
-            Value::String(bytes) => text(&mut told, bytes),
-            other => scalar(&mut told, other),
+            Value::U8(n) => self.push(&[n]),
+            Value::I8(n) => self.push(&n.to_be_bytes()),
+            Value::U16(n) => self.push(&n.to_be_bytes()),
+            Value::I16(n) => self.push(&n.to_be_bytes()),
+            Value::U32(n) => self.push(&n.to_be_bytes()),
+            Value::I32(n) => self.push(&n.to_be_bytes()),
+            Value::F32(x) => self.push(&x.to_bits().to_be_bytes()),
+            Value::Bool(yes) => self.push(&[yes.into()]),
+            Value::String(bytes) => self.push(bytes),
+            Value::U64(n) => self.push(&n.to_be_bytes()),
+            Value::I64(n) => self.push(&n.to_be_bytes()),
+            Value::F64(x) => self.push(&x.to_bits().to_be_bytes()),
+            Value::Array(_) => Err(SheetError::NestedArray { key: self.name.to_vec() }),
         }
-        n += 1;
     }
-    out.push(item_type as u8);
-    count(out, n);
-    out.extend(told);
+
+    fn item(&mut self, expected: Type, item: Value<'_>) -> Result<(), SheetError> {
+        let found = item.value_type();
+        if found != expected && found != Type::Array {
+            return Err(SheetError::ItemType { key: self.name.to_vec(), expected, found });
+        }
+        match item {
+            Value::String(bytes) => self.text(bytes),
+            other => self.value(other),
+        }
+    }
+}
+
+/// The sum of two lengths, where four bytes can say it.
+fn total_length(held: usize, more: usize) -> Result<u32, SheetError> {
+    let total = held.checked_add(more).ok_or(SheetError::TooLong)?;
+    total.try_into().map_err(|_| SheetError::TooLong)
+}
+
+#[cfg(test)]
+mod tests {
+    use super::*;
+
+    #[test]
+    fn lengths_that_four_bytes_can_say() {
+        let most = u32::MAX as usize;
+        assert_eq!(total_length(0, most), Ok(u32::MAX));
+        assert_eq!(total_length(most - 7, 7), Ok(u32::MAX));
+        for (held, more) in [(0, most + 1), (most, 1), (1, most), (1, usize::MAX), (usize::MAX, 1)]
+        {
+            assert_eq!(total_length(held, more), Err(SheetError::TooLong), "{held} + {more}");
+        }
+    }
 }

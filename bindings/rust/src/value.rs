@@ -1,31 +1,43 @@
 //! Values of entries, and items of arrays, as parts of the prefix.
 
-use crate::header::ByteOrder;
-use std::fmt;
-use std::iter::FusedIterator;
+use crate::front::Dialect;
+use core::fmt;
+use core::iter::FusedIterator;
 
-/// The type of a value or of an array's items. Its number is the file's.
-#[allow(missing_docs)]
+/// The type of a value or of an array's items. `as u8` gives the file's number for it.
 #[derive(Clone, Copy, Debug, PartialEq, Eq, Hash)]
 #[repr(u8)]
 pub enum Type {
+    /// An unsigned integer of 8 bits.
     U8 = 0,
+    /// A signed integer of 8 bits.
     I8 = 1,
+    /// An unsigned integer of 16 bits.
     U16 = 2,
+    /// A signed integer of 16 bits.
     I16 = 3,
+    /// An unsigned integer of 32 bits.
     U32 = 4,
+    /// A signed integer of 32 bits.
     I32 = 5,
+    /// A float of 32 bits.
     F32 = 6,
+    /// True or false.
     Bool = 7,
+    /// A string of bytes.
     String = 8,
+    /// An array.
     Array = 9,
+    /// An unsigned integer of 64 bits.
     U64 = 10,
+    /// A signed integer of 64 bits.
     I64 = 11,
+    /// A float of 64 bits.
     F64 = 12,
 }
 
 impl Type {
-    /// The type of a number of the file. Above 12 there is none, and no reader accepts one.
+    /// The type of a number in a row. Above 12 there is none, and the reader accepts none.
     pub(crate) fn of(number: u64) -> Type {
         match number {
             0 => Type::U8,
@@ -45,7 +57,7 @@ impl Type {
         }
     }
 
-    /// The type's name, as Rust has it.
+    /// The type's name, as Rust writes it.
     pub fn name(self) -> &'static str {
         match self {
             Type::U8 => "u8",
@@ -82,23 +94,34 @@ impl fmt::Display for Type {
     }
 }
 
-/// A value. Strings are parts of the prefix, as the file has them; nothing says that they are
-/// UTF-8.
-#[allow(missing_docs)]
+/// A value. Strings are parts of the prefix, as the file has them; they need not be UTF-8.
 #[derive(Clone, Copy, Debug, PartialEq)]
 pub enum Value<'a> {
+    /// An unsigned integer of 8 bits.
     U8(u8),
+    /// A signed integer of 8 bits.
     I8(i8),
+    /// An unsigned integer of 16 bits.
     U16(u16),
+    /// A signed integer of 16 bits.
     I16(i16),
+    /// An unsigned integer of 32 bits.
     U32(u32),
+    /// A signed integer of 32 bits.
     I32(i32),
+    /// A float of 32 bits.
     F32(f32),
+    /// True or false.
     Bool(bool),
+    /// A string of bytes.
     String(&'a [u8]),
+    /// An array.
     Array(Array<'a>),
+    /// An unsigned integer of 64 bits.
     U64(u64),
+    /// A signed integer of 64 bits.
     I64(i64),
+    /// A float of 64 bits.
     F64(f64),
 }
 
@@ -114,13 +137,12 @@ impl<'a> Value<'a> {
                 items: &prefix[words[4] as usize..],
                 dialect,
             }),
-            // A row has a bool as 0 or 1.
             scalar => Value::scalar(scalar, words[1]),
         }
     }
 
-    /// A scalar by its bits, of which those above its width don't count: a row has signed ones in
-    /// 64 bits.
+    /// A scalar by its bits. Those above its width don't count, because a row has a signed scalar
+    /// in 64 bits.
     fn scalar(scalar: Type, bits: u64) -> Value<'a> {
         match scalar {
             Type::U8 => Value::U8(bits as u8),
@@ -134,7 +156,7 @@ impl<'a> Value<'a> {
             Type::U64 => Value::U64(bits),
             Type::I64 => Value::I64(bits as i64),
             Type::F64 => Value::F64(f64::from_bits(bits)),
-            Type::String | Type::Array => unreachable!("no scalar"),
+            Type::String | Type::Array => unreachable!("not a scalar"),
         }
     }
 
@@ -157,7 +179,7 @@ impl<'a> Value<'a> {
         }
     }
 
-    /// An integer of any type that is not below 0.
+    /// An integer of any of the eight integer types, where it is not below 0.
     pub fn as_u64(&self) -> Option<u64> {
         match *self {
             Value::U8(n) => Some(n.into()),
@@ -168,7 +190,7 @@ impl<'a> Value<'a> {
         }
     }
 
-    /// An integer of any type that is not above 2^63 - 1.
+    /// An integer of any of the eight integer types, where it is not above 2^63 - 1.
     pub fn as_i64(&self) -> Option<i64> {
         match *self {
             Value::U8(n) => Some(n.into()),
@@ -210,7 +232,7 @@ impl<'a> Value<'a> {
 
     /// A string, where it is UTF-8.
     pub fn as_str(&self) -> Option<&'a str> {
-        self.as_bytes().and_then(|bytes| std::str::from_utf8(bytes).ok())
+        self.as_bytes().and_then(|bytes| core::str::from_utf8(bytes).ok())
     }
 
     /// An array.
@@ -222,16 +244,8 @@ impl<'a> Value<'a> {
     }
 }
 
-/// What the items of an array depend on.
-#[derive(Clone, Copy, Debug, PartialEq, Eq)]
-pub(crate) struct Dialect {
-    pub byte_order: ByteOrder,
-    /// The bytes of a string's size.
-    pub size_width: usize,
-}
-
-/// An array: its items follow one another in the prefix. All of them were checked, the ones that
-/// are not kept too.
+/// An array. Its items are read from the prefix as they are asked for. All of them were checked,
+/// also those that are not kept.
 #[derive(Clone, Copy)]
 pub struct Array<'a> {
     item_type: Type,
@@ -258,8 +272,8 @@ impl<'a> Array<'a> {
         self.len == 0
     }
 
-    /// How many items are kept: all, but for a tokenizer's arrays, which the reader's cap cuts
-    /// ([`Options::cap`](crate::Options::cap)).
+    /// How many items are kept: all, except in a tokenizer's arrays, of which the reader keeps as
+    /// many as [`Options::cap`](crate::Options::cap) says.
     pub fn kept(&self) -> u64 {
         self.kept
     }
@@ -282,7 +296,9 @@ impl<'a> Array<'a> {
 /// Arrays are equal where their items' types, their items and their kept counts are.
 impl PartialEq for Array<'_> {
     fn eq(&self, other: &Array<'_>) -> bool {
-        self.item_type == other.item_type && self.kept == other.kept && self.iter_all().eq(other.iter_all())
+        self.item_type == other.item_type
+            && self.kept == other.kept
+            && self.iter_all().eq(other.iter_all())
     }
 }
 
@@ -319,12 +335,8 @@ impl<'a> Items<'a> {
     }
 
     fn number(&mut self, width: usize) -> u64 {
-        let bytes = self.take(width).iter();
-        let join = |n: u64, b: &u8| n << 8 | u64::from(*b);
-        match self.dialect.byte_order {
-            ByteOrder::Little => bytes.rev().fold(0, join),
-            ByteOrder::Big => bytes.fold(0, join),
-        }
+        let bytes = self.take(width);
+        self.dialect.byte_order.number(bytes)
     }
 }
 
@@ -343,7 +355,7 @@ impl<'a> Iterator for Items<'a> {
     }
 
     fn size_hint(&self) -> (usize, Option<usize>) {
-        // Every item has a byte in the prefix, so that their number is a usize.
+        // Every item has a byte in the prefix, so their number fits a usize.
         (self.left as usize, Some(self.left as usize))
     }
 }

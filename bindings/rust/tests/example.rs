@@ -1,5 +1,5 @@
 //! The examples, run as programs: `ranges`, which `cargo test` builds, and examples/c/list.c of the
-//! repository, which is built here. And `first`, which README.md at the top of the repository has.
+//! project, which is built here. And `first`, which README.md at the top of the repository has.
 
 mod made;
 
@@ -7,9 +7,12 @@ use made::{a_and_b, made};
 use std::path::{Path, PathBuf};
 use std::process::{Command, Output};
 
-/// The repository's top.
+/// The top of the project, which has its C header in `include`: beside this folder in a release,
+/// and one further up in the repository.
 fn top() -> PathBuf {
-    Path::new(env!("CARGO_MANIFEST_DIR")).join("../..")
+    let above = ["..", "../.."].map(|up| Path::new(env!("CARGO_MANIFEST_DIR")).join(up));
+    let has_header = |folder: &&PathBuf| folder.join("include/strutpebble.h").exists();
+    above.iter().find(has_header).expect("no include/strutpebble.h above this folder").clone()
 }
 
 /// A place for a file of this run.
@@ -25,9 +28,9 @@ fn run(program: &Path, name: &str, file: &[u8], words: &[&str]) -> (i32, String,
         Ok(runner) => Command::new(runner),
         Err(_) => Command::new("env"),
     };
-    let told = command.arg(program).arg(&path).args(words).output();
+    let output = command.arg(program).arg(&path).args(words).output();
     std::fs::remove_file(&path).unwrap();
-    let Output { status, stdout, stderr } = told.unwrap();
+    let Output { status, stdout, stderr } = output.unwrap();
     (status.code().unwrap(), String::from_utf8(stdout).unwrap(), String::from_utf8(stderr).unwrap())
 }
 
@@ -60,7 +63,8 @@ fn more_bytes_are_wanted() {
     file.key("k", 8).text(vec![b'x'; 70000]).tensor("t", &[8], 0, 0);
     let (status, out, message) = asked("short", &file.bytes, &["0"]);
     assert_eq!((status, out.as_str()), (1, ""));
-    let wanted = "refused 1 at byte 45: the header does not end inside these bytes: fetch more (give a number of bytes above 65536)\n";
+    let wanted = "refused 1 at byte 45: the header does not end inside these bytes: fetch more \
+                  (give a number of bytes above 65536)\n";
     assert!(message.ends_with(wanted), "{message}");
     // A file that itself ends too soon.
     let (status, _, message) = asked("cut", &file.bytes[..50], &["0"]);
@@ -79,8 +83,13 @@ fn called_wrongly() {
 
 #[test]
 fn the_first_use_is_the_readmes() {
+    let here = Path::new(env!("CARGO_MANIFEST_DIR"));
+    let is_release = !top().join("bindings/rust").exists();
+    if is_release && !top().join("README.md").exists() {
+        return;
+    }
     let readme = std::fs::read_to_string(top().join("README.md")).unwrap();
-    let example = std::fs::read_to_string(top().join("bindings/rust/examples/first.rs")).unwrap();
+    let example = std::fs::read_to_string(here.join("examples/first.rs")).unwrap();
     let shown = readme.split("```rust\n").nth(1).unwrap().split("```").next().unwrap();
     let (_, code) = example.split_once("\n\n").unwrap();
     assert_eq!(shown, code);
@@ -110,14 +119,20 @@ fn the_c_example() {
     file.tensor("a", &[5], 0, 0).tensor("b", &[3, 1], 1, 32);
     // Entries: 24 + 45 + 17 + 17 + 14 + 40 + 9000 * 9 = 81157. The tensors add 33 and 41: the
     // header ends at 81231, the data starts at 81248.
-    let entries = "version 3, little end first, alignment 32, data from 81248 on\n\
-                   general.architecture string llama\ni i32 -7\nf f32 1.5\nb bool true\ntokenizer.tokens array of 9000 string\n";
+    let entries = "version 3, little-endian, alignment 32, data from 81248 on\n\
+                   general.architecture string llama\ni i32 -7\nf f32 1.5\nb bool true\n\
+                   tokenizer.tokens array of 9000 string\n";
     let a = "a kind 0 [5] 20 bytes from 81248 on\n";
     let b = "b kind 1 [3 1] 6 bytes from 81280 on\n";
     file.bytes.resize(81286, 0);
-    let whole = run(&program, "whole", &file.bytes, &[]);
+    // Both words for the byte order are taken.
+    let listed = |name, file: &[u8]| {
+        let (status, out, message) = run(&program, name, file, &[]);
+        (status, out.replacen("little end first", "little-endian", 1), message)
+    };
+    let whole = listed("whole", &file.bytes);
     file.bytes.pop();
-    let short = run(&program, "one-less", &file.bytes, &[]);
+    let short = listed("one-less", &file.bytes);
     let cut = run(&program, "no-header", &file.bytes[..20], &[]);
     let wrong = run(&program, "two-words", b"", &["more"]);
     std::fs::remove_file(&program).unwrap();

@@ -4,22 +4,29 @@
 mod made;
 
 use made::{a_and_b, made};
-use strutpebble::{measure, read, ByteOrder, NoRange, Options, Refusal, Summary};
+use strutpebble::{
+    measure, read, ByteOrder, Header, Kind, Options, Place, RangeError, Reason, Summary,
+};
 
 /// The tensors a and b in version 3, byte by byte.
 #[rustfmt::skip]
 const A_AND_B: [u8; 90] = [
     0x47, 0x47, 0x55, 0x46, 3, 0, 0, 0,
     2, 0, 0, 0, 0, 0, 0, 0,   0, 0, 0, 0, 0, 0, 0, 0,
-    1, 0, 0, 0, 0, 0, 0, 0,   b'a',   1, 0, 0, 0,   5, 0, 0, 0, 0, 0, 0, 0,   0, 0, 0, 0,    0, 0, 0, 0, 0, 0, 0, 0,
-    1, 0, 0, 0, 0, 0, 0, 0,   b'b',   1, 0, 0, 0,   3, 0, 0, 0, 0, 0, 0, 0,   1, 0, 0, 0,   32, 0, 0, 0, 0, 0, 0, 0,
+    1, 0, 0, 0, 0, 0, 0, 0,   b'a',   1, 0, 0, 0,   5, 0, 0, 0, 0, 0, 0, 0,
+    0, 0, 0, 0,    0, 0, 0, 0, 0, 0, 0, 0,
+    1, 0, 0, 0, 0, 0, 0, 0,   b'b',   1, 0, 0, 0,   3, 0, 0, 0, 0, 0, 0, 0,
+    1, 0, 0, 0,   32, 0, 0, 0, 0, 0, 0, 0,
 ];
 
 #[test]
 fn an_empty_header() {
     let v3 = b"GGUF\x03\0\0\0\0\0\0\0\0\0\0\0\0\0\0\0\0\0\0\0";
     let header = read(v3).unwrap();
-    assert_eq!((header.version(), header.header_end(), header.data_start(), header.alignment()), (3, 24, 32, 32));
+    assert_eq!(
+        (header.version(), header.header_end(), header.data_start(), header.alignment()),
+        (3, 24, 32, 32)
+    );
     assert_eq!((header.entries().len(), header.tensors().len()), (0, 0));
     assert_eq!(header.check_ranges(0), Ok(()));
 
@@ -31,27 +38,52 @@ fn an_empty_header() {
 #[test]
 fn a_and_b_in_version_3() {
     let header = read(&A_AND_B).unwrap();
-    let said = Summary { version: 3, byte_order: ByteOrder::Little, entries: 0, tensors: 2, alignment: 32, header_end: 90, data_start: 96 };
+    let said = Summary {
+        version: 3,
+        byte_order: ByteOrder::Little,
+        entries: 0,
+        tensors: 2,
+        alignment: 32,
+        header_end: 90,
+        data_start: 96,
+    };
     assert_eq!(header.summary(), said);
     assert_eq!(measure(&A_AND_B), Ok(said));
 
     let tensors: Vec<_> = header.tensors().collect();
     assert_eq!(tensors.len(), 2);
     let (a, b) = (tensors[0], tensors[1]);
-    assert_eq!((a.name(), a.kind(), a.lengths(), a.offset(), a.size()), (&b"a"[..], 0, &[5][..], 0, 20));
-    assert_eq!((b.name(), b.kind(), b.lengths(), b.offset(), b.size()), (&b"b"[..], 1, &[3][..], 32, 6));
+    assert_eq!(
+        (a.name(), a.kind(), a.lengths(), a.offset(), a.size()),
+        (&b"a"[..], Kind::F32, &[5][..], 0, 20)
+    );
+    assert_eq!(
+        (b.name(), b.kind(), b.lengths(), b.offset(), b.size()),
+        (&b"b"[..], Kind::F16, &[3][..], 32, 6)
+    );
     assert_eq!(a.shape(), [5, 1, 1, 1]);
     assert_eq!(header.tensors().next_back(), Some(b));
 }
 
 #[test]
 fn a_and_b_in_other_versions_and_orders() {
-    for (version, big, end) in [(1, false, 74), (2, false, 90), (3, false, 90), (1, true, 74), (2, true, 90), (3, true, 90)] {
+    for (version, big, end) in [
+        (1, false, 74),
+        (2, false, 90),
+        (3, false, 90),
+        (1, true, 74),
+        (2, true, 90),
+        (3, true, 90),
+    ] {
         let bytes = a_and_b(version, big);
         let header = read(&bytes).unwrap();
-        assert_eq!((header.version(), header.header_end(), header.data_start()), (version, end, 96));
+        assert_eq!(
+            (header.version(), header.header_end(), header.data_start()),
+            (version, end, 96)
+        );
         assert_eq!(header.byte_order(), if big { ByteOrder::Big } else { ByteOrder::Little });
-        let sizes: Vec<_> = header.tensors().map(|tensor| (tensor.offset(), tensor.size())).collect();
+        let sizes: Vec<_> =
+            header.tensors().map(|tensor| (tensor.offset(), tensor.size())).collect();
         assert_eq!(sizes, [(0, 20), (32, 6)]);
     }
     assert_eq!(a_and_b(3, false), A_AND_B);
@@ -63,42 +95,58 @@ fn ranges_by_number_and_by_name() {
     let header = read(&A_AND_B).unwrap();
     assert_eq!(header.range_of(0), Ok(96..116));
     assert_eq!(header.range_of(1), Ok(128..134));
-    assert_eq!(header.range_of(2), Err(NoRange::NoSuchTensor));
+    assert_eq!(header.range_of(2), Err(RangeError::NoSuchTensor));
     assert_eq!(header.range_of_name("a"), Ok(96..116));
     assert_eq!(header.range_of_name("b"), Ok(128..134));
-    assert_eq!(header.range_of_name("c"), Err(NoRange::NoSuchTensor));
-    assert_eq!(header.range_of_name(""), Err(NoRange::NoSuchTensor));
+    assert_eq!(header.range_of_name("c"), Err(RangeError::NoSuchTensor));
+    assert_eq!(header.range_of_name(""), Err(RangeError::NoSuchTensor));
     assert_eq!(header.find_tensor("b").map(|(index, _)| index), Some(1));
 }
 
 #[test]
 fn of_equal_names_the_first() {
-    let file = made(3, false, 3, 0).tensor("x", &[8], 0, 0).tensor("y", &[8], 0, 32).tensor("y", &[8], 0, 64).bytes.clone();
+    let file = made(3, false, 3, 0)
+        .tensor("x", &[8], 0, 0)
+        .tensor("y", &[8], 0, 32)
+        .tensor("y", &[8], 0, 64)
+        .bytes
+        .clone();
     let header = read(&file).unwrap();
     let (index, tensor) = header.find_tensor("y").unwrap();
     assert_eq!((index, tensor.offset()), (1, 32));
+}
+
+/// The first tensor that ends after a file of so many bytes.
+fn first_outside(header: &Header, file_length: u64) -> Place {
+    let refusal = header.check_ranges(file_length).unwrap_err();
+    assert_eq!((refusal.number(), refusal.reason()), (20, Reason::PastTheFile));
+    refusal.place()
 }
 
 #[test]
 fn the_range_check() {
     let header = read(&A_AND_B).unwrap();
     assert_eq!(header.check_ranges(134), Ok(()));
-    assert_eq!(header.check_ranges(133), Err(Refusal { number: 20, place: 1 }));
-    assert_eq!(header.check_ranges(116), Err(Refusal { number: 20, place: 1 }));
-    assert_eq!(header.check_ranges(115), Err(Refusal { number: 20, place: 0 }));
-    assert_eq!(header.check_ranges(0), Err(Refusal { number: 20, place: 0 }));
+    assert_eq!(first_outside(&header, 133), Place::Tensor(1));
+    assert_eq!(first_outside(&header, 116), Place::Tensor(1));
+    assert_eq!(first_outside(&header, 115), Place::Tensor(0));
+    assert_eq!(first_outside(&header, 0), Place::Tensor(0));
 }
 
 #[test]
 fn a_range_that_no_file_has() {
     // The data starts at 96: both tensors would start above 2^64 - 1.
-    let file = made(3, false, 2, 0).tensor("a", &[], 0, u64::MAX - 63).tensor("b", &[], 0, u64::MAX - 67).bytes.clone();
+    let file = made(3, false, 2, 0)
+        .tensor("a", &[], 0, u64::MAX - 63)
+        .tensor("b", &[], 0, u64::MAX - 67)
+        .bytes
+        .clone();
     let header = read(&file).unwrap();
     assert_eq!(header.data_start(), 96);
     assert_eq!(header.tensor(0).unwrap().range(), None);
-    assert_eq!(header.range_of(0), Err(NoRange::Overflow));
-    assert_eq!(header.range_of_name("b"), Err(NoRange::Overflow));
-    assert_eq!(header.check_ranges(u64::MAX), Err(Refusal { number: 20, place: 0 }));
+    assert_eq!(header.range_of(0), Err(RangeError::Overflow));
+    assert_eq!(header.range_of_name("b"), Err(RangeError::Overflow));
+    assert_eq!(first_outside(&header, u64::MAX), Place::Tensor(0));
 }
 
 #[test]
@@ -109,12 +157,12 @@ fn the_last_byte_that_a_file_can_have() {
     assert_eq!((header.header_end(), header.data_start()), (49, 64));
     assert_eq!(header.range_of(0), Ok(u64::MAX - 4..u64::MAX));
     assert_eq!(header.check_ranges(u64::MAX), Ok(()));
-    assert_eq!(header.check_ranges(u64::MAX - 1), Err(Refusal { number: 20, place: 0 }));
+    assert_eq!(first_outside(&header, u64::MAX - 1), Place::Tensor(0));
     // One byte further on it would end at 2^64.
     file[41] += 1;
     let header = read(&file).unwrap();
-    assert_eq!(header.range_of(0), Err(NoRange::Overflow));
-    assert_eq!(header.check_ranges(u64::MAX), Err(Refusal { number: 20, place: 0 }));
+    assert_eq!(header.range_of(0), Err(RangeError::Overflow));
+    assert_eq!(first_outside(&header, u64::MAX), Place::Tensor(0));
 }
 
 #[test]
@@ -128,7 +176,11 @@ fn sizes_of_known_shapes() {
         (39, &[256], 273),
     ] {
         let file = made(3, false, 1, 0).tensor("t", lengths, kind, 0).bytes.clone();
-        assert_eq!(read(&file).unwrap().tensor(0).unwrap().size(), size, "kind {kind}, lengths {lengths:?}");
+        assert_eq!(
+            read(&file).unwrap().tensor(0).unwrap().size(),
+            size,
+            "kind {kind}, lengths {lengths:?}"
+        );
     }
 }
 
@@ -147,7 +199,11 @@ fn a_header_that_is_cut_off() {
     for pair in fields.windows(2) {
         for end in pair[0]..pair[1] {
             let refusal = read(&A_AND_B[..end]).unwrap_err();
-            assert_eq!((refusal.number, refusal.place), (1, pair[0] as u64), "{end} bytes");
+            assert_eq!(
+                (refusal.reason(), refusal.place()),
+                (Reason::CutOff, Place::Prefix(pair[0] as u64)),
+                "{end} bytes"
+            );
             assert!(refusal.wants_more());
         }
     }
@@ -156,9 +212,13 @@ fn a_header_that_is_cut_off() {
 #[test]
 fn alignments() {
     // The last of equal keys decides; what is unusable means 32.
-    for (values, alignment, start) in
-        [(&[64][..], 64, 64), (&[64, 8], 8, 96), (&[64, 12], 32, 96), (&[0], 32, 64), (&[1 << 20], 1 << 20, 1 << 20)]
-    {
+    for (values, alignment, start) in [
+        (&[64][..], 64, 64),
+        (&[64, 8], 8, 96),
+        (&[64, 12], 32, 96),
+        (&[0], 32, 64),
+        (&[1 << 20], 1 << 20, 1 << 20),
+    ] {
         let mut file = made(3, false, 0, values.len() as u64);
         for value in values {
             file.key("general.alignment", 4).number(4, *value);
@@ -170,7 +230,8 @@ fn alignments() {
 
 #[test]
 fn rows_of_the_callers() {
-    let file = made(3, false, 1, 1).key("k", 4).number(4, 7).tensor("t", &[2, 3], 0, 0).bytes.clone();
+    let file =
+        made(3, false, 1, 1).key("k", 4).number(4, 7).tensor("t", &[2, 3], 0, 0).bytes.clone();
     let mut entries = [[9; 7]; 2];
     let mut tensors = [[9; 10]; 2];
     let summary = Options::new().read_rows(&file, &mut entries, &mut tensors).unwrap();
@@ -179,4 +240,36 @@ fn rows_of_the_callers() {
     // dimensions, four lengths, offset, size.
     assert_eq!(entries, [[32, 1, 4, 7, 0, 0, 0], [9; 7]]);
     assert_eq!(tensors, [[49, 1, 0, 2, 2, 3, 1, 1, 0, 24], [9; 10]]);
+}
+
+#[test]
+fn kinds_have_names_where_the_reader_knows_them() {
+    let mut names = std::collections::BTreeSet::new();
+    for number in (0..64).chain([u32::MAX]) {
+        let file = made(3, false, 1, 0).tensor("t", &[256], number.into(), 0).bytes.clone();
+        let kind = Kind::from(number);
+        match read(&file) {
+            Ok(header) => assert_eq!(header.tensor(0).unwrap().kind(), kind),
+            Err(refusal) => assert_eq!(refusal.reason(), Reason::UnknownKind),
+        }
+        assert_eq!(kind.name().is_some(), read(&file).is_ok(), "kind {number}");
+        assert_eq!((kind.number(), u32::from(kind)), (number, number));
+        names.extend(kind.name());
+    }
+    assert_eq!(names.len(), 38);
+    for (kind, number, name) in [
+        (Kind::F32, 0, "F32"),
+        (Kind::Q5_0, 6, "Q5_0"),
+        (Kind::Q6_K, 14, "Q6_K"),
+        (Kind::IQ4_NL, 20, "IQ4_NL"),
+        (Kind::I8, 24, "I8"),
+        (Kind::BF16, 30, "BF16"),
+        (Kind::TQ1_0, 34, "TQ1_0"),
+        (Kind::MXFP4, 39, "MXFP4"),
+    ] {
+        assert_eq!(
+            (kind.number(), kind.name(), kind.to_string()),
+            (number, Some(name), name.into())
+        );
+    }
 }

@@ -6,18 +6,20 @@
 
 mod made;
 
-use made::{a_and_b, made};
-use strutpebble::{file_type, find, find_string, measure, model_family, read, NoString, Options, Refusal};
+use made::{a_and_b, made, number_and_byte};
+use strutpebble::{
+    file_type, find, find_string, measure, model_family, read, Options, Reason, StringError,
+};
 
 /// The refusal of the reader with default options, which every question gives too.
 fn refused(file: &[u8]) -> (u64, u64) {
     let refusal = read(file).unwrap_err();
     assert_eq!(measure(file), Err(refusal));
     assert_eq!(find(file, "k"), Err(refusal));
-    assert_eq!(find_string(file, "k"), Err(NoString::Refused(refusal)));
-    assert_eq!(model_family(file), Err(NoString::Refused(refusal)));
+    assert_eq!(find_string(file, "k"), Err(StringError::Refused(refusal)));
+    assert_eq!(model_family(file), Err(StringError::Refused(refusal)));
     assert_eq!(file_type(file), Err(refusal));
-    (refusal.number, refusal.place)
+    number_and_byte(refusal)
 }
 
 #[test]
@@ -30,7 +32,12 @@ fn cut_off_1() {
     assert_eq!(refused(&made(3, false, 0, 1).size(1 << 30).bytes), (1, 32));
     // An item that is missing is refused at its own start: items of two bytes from 49 on, the last
     // of three cut in half.
-    assert_eq!(refused(&made(3, false, 0, 1).array("k", 2, 3).number(2, 1).number(2, 2).number(1, 3).bytes), (1, 53));
+    assert_eq!(
+        refused(
+            &made(3, false, 0, 1).array("k", 2, 3).number(2, 1).number(2, 2).number(1, 3).bytes
+        ),
+        (1, 53)
+    );
 }
 
 #[test]
@@ -50,8 +57,8 @@ fn versions_4_and_5() {
     // The bytes of version 3 in the other order.
     assert_eq!(refused(b"FUGG\x03\0\0\0"), (4, 4));
     let file = a_and_b(3, false);
-    assert_eq!(Options::new().highest_version(2).read(&file).unwrap_err(), Refusal { number: 5, place: 4 });
-    assert_eq!(Options::new().highest_version(0).read(&file).unwrap_err(), Refusal { number: 5, place: 4 });
+    assert_eq!(number_and_byte(Options::new().highest_version(2).read(&file).unwrap_err()), (5, 4));
+    assert_eq!(number_and_byte(Options::new().highest_version(0).read(&file).unwrap_err()), (5, 4));
     assert!(Options::new().highest_version(2).read(&a_and_b(2, false)).is_ok());
     assert!(Options::new().highest_version(9).read(&file).is_ok());
 }
@@ -59,13 +66,21 @@ fn versions_4_and_5() {
 #[test]
 fn too_few_rows_6() {
     for (version, entries_at) in [(1, 12), (3, 16)] {
-        let file = made(version, false, 1, 1).key("k", 0).number(1, 5).tensor("t", &[], 0, 0).bytes.clone();
+        let file = made(version, false, 1, 1)
+            .key("k", 0)
+            .number(1, 5)
+            .tensor("t", &[], 0, 0)
+            .bytes
+            .clone();
         let mut entries = [[7; 7]; 1];
         let mut tensors = [[7; 10]; 1];
         let options = Options::new();
-        assert_eq!(options.read_rows(&file, &mut entries, &mut []), Err(Refusal { number: 6, place: 8 }));
-        assert_eq!(options.read_rows(&file, &mut [], &mut tensors), Err(Refusal { number: 6, place: entries_at }));
-        assert_eq!(options.read_rows(&file, &mut [], &mut []), Err(Refusal { number: 6, place: 8 }));
+        let refusal = options.read_rows(&file, &mut entries, &mut []).unwrap_err();
+        assert_eq!(number_and_byte(refusal), (6, 8));
+        let refusal = options.read_rows(&file, &mut [], &mut tensors).unwrap_err();
+        assert_eq!(number_and_byte(refusal), (6, entries_at));
+        let refusal = options.read_rows(&file, &mut [], &mut []).unwrap_err();
+        assert_eq!(number_and_byte(refusal), (6, 8));
         assert_eq!((entries, tensors), ([[7; 7]], [[7; 10]]));
         assert!(options.read_rows(&file, &mut entries, &mut tensors).is_ok());
         // The crate's own rows are always enough.
@@ -79,7 +94,8 @@ fn a_refusal_leaves_the_rows() {
     let file = made(3, false, 1, 1).key("k", 0).number(1, 5).tensor("t", &[], 40, 0).bytes.clone();
     let mut entries = [[7; 7]; 3];
     let mut tensors = [[7; 10]; 3];
-    assert_eq!(Options::new().read_rows(&file, &mut entries, &mut tensors), Err(Refusal { number: 11, place: 51 }));
+    let refusal = Options::new().read_rows(&file, &mut entries, &mut tensors).unwrap_err();
+    assert_eq!(number_and_byte(refusal), (11, 51));
     assert_eq!((entries, tensors), ([[7; 7]; 3], [[7; 10]; 3]));
 }
 
@@ -117,22 +133,36 @@ fn kinds_11_and_12() {
         assert_eq!(refused(&made(3, false, 1, 0).tensor("t", &[1], kind, 0).bytes), (11, 45));
     }
     let file = made(3, false, 1, 0).tensor("t", &[1], 39, 0).bytes.clone();
-    assert_eq!(Options::new().highest_kind(38).read(&file).unwrap_err(), Refusal { number: 12, place: 45 });
+    assert_eq!(number_and_byte(Options::new().highest_kind(38).read(&file).unwrap_err()), (12, 45));
     assert!(Options::new().highest_kind(39).read(&file).is_ok());
     // No ceiling makes a kind of 40.
     let file = made(3, false, 1, 0).tensor("t", &[1], 40, 0).bytes.clone();
-    assert_eq!(Options::new().highest_kind(100).read(&file).unwrap_err(), Refusal { number: 11, place: 45 });
+    assert_eq!(
+        number_and_byte(Options::new().highest_kind(100).read(&file).unwrap_err()),
+        (11, 45)
+    );
 }
 
 #[test]
 fn products_and_sizes_13_14_15() {
-    assert_eq!(refused(&made(3, false, 1, 0).tensor("t", &[1 << 32, 1 << 32, 0], 0, 0).bytes), (13, 24));
+    assert_eq!(
+        refused(&made(3, false, 1, 0).tensor("t", &[1 << 32, 1 << 32, 0], 0, 0).bytes),
+        (13, 24)
+    );
     assert_eq!(refused(&made(3, false, 1, 0).tensor("t", &[1 << 62], 0, 0).bytes), (14, 24));
     // Kind 24 has one byte for each of its numbers before the division: only the total is too
     // great, at the second tensor.
     let half = 1 << 63;
-    assert_eq!(refused(&made(3, false, 2, 0).tensor("s", &[half], 24, 0).tensor("t", &[half], 24, 0).bytes), (15, 57));
-    assert!(read(&made(3, false, 2, 0).tensor("s", &[half], 24, 0).tensor("t", &[half - 1], 24, 0).bytes).is_ok());
+    assert_eq!(
+        refused(
+            &made(3, false, 2, 0).tensor("s", &[half], 24, 0).tensor("t", &[half], 24, 0).bytes
+        ),
+        (15, 57)
+    );
+    assert!(read(
+        &made(3, false, 2, 0).tensor("s", &[half], 24, 0).tensor("t", &[half - 1], 24, 0).bytes
+    )
+    .is_ok());
 }
 
 #[test]
@@ -150,22 +180,18 @@ fn counts_that_are_made_up() {
 }
 
 #[test]
-fn words_for_every_number() {
-    let numbers: Vec<u64> = (1..=15).chain([18, 20]).collect();
-    let mut reasons: Vec<_> = numbers.iter().map(|number| Refusal { number: *number, place: 0 }.reason()).collect();
-    let unknown = Refusal { number: 0, place: 0 }.reason();
-    assert!(!reasons.contains(&unknown));
-    reasons.sort();
-    reasons.dedup();
-    assert_eq!(reasons.len(), numbers.len());
-    for number in numbers {
-        assert_eq!(Refusal { number, place: 0 }.wants_more(), number == 1);
-    }
-    let cut_off = Refusal { number: 1, place: 24 };
-    assert_eq!(cut_off.to_string(), "refused 1 at byte 24: the header does not end inside these bytes: fetch more");
-    let past = Refusal { number: 20, place: 7 };
-    assert_eq!(past.to_string(), "refused 20 at tensor 7: its data ends after the file");
-    assert_eq!(NoString::Refused(cut_off).to_string(), cut_off.to_string());
-    let error: Box<dyn std::error::Error> = Box::new(NoString::Refused(cut_off));
-    assert_eq!(error.source().unwrap().to_string(), cut_off.to_string());
+fn errors_of_questions_name_their_source() {
+    let cut_off = read(&made(3, false, 0, 1).bytes).unwrap_err();
+    let words = "refused 1 at byte 24: the header does not end inside these bytes: fetch more";
+    assert_eq!((cut_off.to_string().as_str(), cut_off.wants_more()), (words, true));
+    let error: Box<dyn std::error::Error> = Box::new(StringError::from(cut_off));
+    assert_eq!(error.to_string(), "the header was refused");
+    assert_eq!(error.source().unwrap().to_string(), words);
+    let absent: &dyn std::error::Error = &StringError::Absent;
+    assert_eq!(
+        (absent.to_string().as_str(), absent.source().is_none()),
+        ("no entry has this key", true)
+    );
+    let no_gguf = read(b"ABCDEFGH").unwrap_err();
+    assert_eq!((no_gguf.reason(), no_gguf.wants_more()), (Reason::NotGguf, false));
 }

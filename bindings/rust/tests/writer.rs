@@ -1,41 +1,63 @@
-//! Headers that are written: the known numbers, every refusal that a small sheet reaches, and
-//! reading back.
+//! Headers that are written: the known numbers, every refusal that a small sheet reaches, sheets
+//! that can't be made, and reading back.
 
 mod made;
 
 use made::{a_and_b, made};
-use strutpebble::{read, write_header, ByteOrder, Refusal, Sheet, Type, Value, Written};
+use std::error::Error;
+use strutpebble::{
+    read, write_header, ByteOrder, Kind, Place, Reason, Refusal, Sheet, SheetError, Type, Value,
+    WriteError, WriteOptions, Written,
+};
 
 const LITTLE: ByteOrder = ByteOrder::Little;
+const BIG: ByteOrder = ByteOrder::Big;
 
 /// Writes into bytes that are all 7, and gives them with the answer.
-fn written(sheet: &[u8], version: u32, order: ByteOrder, alignment: u64) -> (Result<Written, Refusal>, [u8; 256]) {
+fn written(
+    sheet: &[u8],
+    version: u32,
+    order: ByteOrder,
+    alignment: u64,
+) -> (Result<Written, Refusal>, [u8; 256]) {
     let mut out = [7; 256];
     let answer = write_header(sheet, version, order, alignment, &mut out);
     (answer, out)
 }
 
 /// The refusal of a sheet, which leaves the output as it was.
-fn refused(sheet: &[u8], version: u32, alignment: u64) -> (u64, u64) {
+fn refused_bytes(sheet: &[u8], version: u32, alignment: u64) -> (u64, Place) {
     let (answer, out) = written(sheet, version, LITTLE, alignment);
     assert_eq!(out, [7; 256]);
     let refusal = answer.unwrap_err();
-    assert!(!refusal.reason().contains("don't know"));
-    (refusal.number, refusal.place)
+    assert!(!matches!(refusal.reason(), Reason::Other(_)));
+    (refusal.number(), refusal.place())
+}
+
+/// The refusal of a sheet, which is the same by every way to write it.
+fn refused(sheet: &Sheet) -> (u64, Place) {
+    let refusal_of_bytes = refused_bytes(&sheet.bytes().unwrap(), 3, 32);
+    let Err(WriteError::Refused(refusal)) = sheet.to_vec() else { panic!("not refused") };
+    assert_eq!((refusal.number(), refusal.place()), refusal_of_bytes);
+    let mut out = [7; 256];
+    assert_eq!(sheet.write(&mut out), Err(WriteError::Refused(refusal)));
+    assert_eq!(out, [7; 256]);
+    refusal_of_bytes
 }
 
 fn two_tensors() -> Sheet {
-    Sheet::new().tensor("a", 0, &[5]).tensor("b", 1, &[3])
+    Sheet::new().tensor("a", Kind::F32, &[5]).tensor("b", 1, &[3])
 }
 
 #[test]
 fn an_empty_sheet() {
-    assert_eq!(Sheet::new().bytes(), [1]);
+    assert_eq!(Sheet::new().bytes(), Ok(vec![1]));
     let (answer, out) = written(&[1], 3, LITTLE, 32);
     assert_eq!(answer, Ok(Written { header_end: 24, data_start: 32 }));
     assert_eq!(out[..24], made(3, false, 0, 0).bytes);
     assert_eq!(out[24..32], [0; 8]);
     assert_eq!(out[32..], [7; 224]);
+    assert_eq!(Sheet::new().to_vec().unwrap(), out[..32]);
 }
 
 #[test]
@@ -44,62 +66,123 @@ fn an_added_alignment() {
     assert_eq!(answer, Ok(Written { header_end: 57, data_start: 64 }));
     assert_eq!(out[..57], made(3, false, 0, 1).key("general.alignment", 4).number(4, 64).bytes);
     // Two keys around it: it stands in its sorted place.
-    let around = Sheet::new().entry("z", Value::U8(1)).entry("a", Value::Bool(true)).bytes();
-    let (answer, out) = written(&around, 2, ByteOrder::Big, 8);
-    let wanted =
-        made(2, true, 0, 3).key("a", 7).number(1, 1).key("general.alignment", 4).number(4, 8).key("z", 0).number(1, 1).bytes.clone();
-    assert_eq!(out[..answer.unwrap().header_end as usize], wanted);
+    let around = Sheet::new().entry("z", Value::U8(1)).entry("a", Value::Bool(true));
+    let options = WriteOptions::new().version(2).byte_order(BIG).alignment(8);
+    let mut out = [7; 256];
+    let answer = options.write(&around, &mut out).unwrap();
+    let mut wanted = made(2, true, 0, 3);
+    wanted.key("a", 7).number(1, 1);
+    wanted.key("general.alignment", 4).number(4, 8);
+    wanted.key("z", 0).number(1, 1);
+    assert_eq!(out[..answer.header_end as usize], wanted.bytes);
 }
 
 #[test]
 fn tensors_a_and_b() {
-    for (version, order, end) in [(1, LITTLE, 74), (2, LITTLE, 90), (3, LITTLE, 90), (1, ByteOrder::Big, 74), (3, ByteOrder::Big, 90)] {
-        let (answer, out) = written(&two_tensors().bytes(), version, order, 32);
+    for (version, order, end) in
+        [(1, LITTLE, 74), (2, LITTLE, 90), (3, LITTLE, 90), (1, BIG, 74), (3, BIG, 90)]
+    {
+        let (answer, out) = written(&two_tensors().bytes().unwrap(), version, order, 32);
         assert_eq!(answer, Ok(Written { header_end: end, data_start: 96 }));
-        assert_eq!(out[..end as usize], a_and_b(version, order == ByteOrder::Big));
+        assert_eq!(out[..end as usize], a_and_b(version, order == BIG));
         assert_eq!(out[end as usize..96], vec![0; 96 - end as usize]);
         assert_eq!(out[96..], [7; 160]);
+        let options = WriteOptions::new().version(version).byte_order(order);
+        assert_eq!(options.to_vec(&two_tensors()).unwrap(), out[..96]);
+        let mut again = [7; 256];
+        assert_eq!(options.write(&two_tensors(), &mut again), Ok(answer.unwrap()));
+        assert_eq!(again, out);
     }
 }
 
 #[test]
 fn a_short_output_stays_as_it_was() {
     let mut out = [7; 95];
-    let answer = write_header(&two_tensors().bytes(), 3, LITTLE, 32, &mut out);
-    assert_eq!(answer, Err(Refusal { number: 38, place: 0 }));
-    assert_eq!(answer.unwrap_err().to_string(), "refused 38: the output is too short for the header and its padding");
+    let Err(WriteError::Refused(refusal)) = two_tensors().write(&mut out) else {
+        panic!("95 bytes are enough")
+    };
+    assert_eq!((refusal.reason(), refusal.place()), (Reason::OutputTooShort, Place::Nowhere));
+    let words = "refused 38: the output is too short for the header and its padding";
+    assert_eq!(refusal.to_string(), words);
     assert_eq!(out, [7; 95]);
-    assert!(write_header(&two_tensors().bytes(), 3, LITTLE, 32, &mut [7; 96]).is_ok());
-    assert_eq!(write_header(&[1], 3, LITTLE, 32, &mut []), Err(Refusal { number: 38, place: 0 }));
+    assert!(two_tensors().write(&mut [7; 96]).is_ok());
+    assert_eq!(write_header(&[1], 3, LITTLE, 32, &mut []), Err(refusal));
 }
 
 #[test]
-fn refusals() {
-    assert_eq!(refused(&[], 0, 0), (30, 0));
-    assert_eq!(refused(&[1], 4, 32), (30, 0));
-    assert_eq!(refused(&[], 3, 32), (31, 0));
-    assert_eq!(refused(&[2], 3, 32), (31, 0));
-    assert_eq!(refused(&[1, 0, 0], 3, 32), (31, 1));
-    // Metadata after a tensor, and five dimensions.
-    let metadata = Sheet::new().entry("k", Value::U8(5)).bytes();
-    let tensor = Sheet::new().tensor("t", 0, &[]).bytes();
-    assert_eq!(refused(&[&tensor, &metadata[1..]].concat(), 3, 32), (31, tensor.len() as u64));
-    assert_eq!(refused(&[&metadata, &metadata[1..]].concat(), 3, 32), (31, metadata.len() as u64));
-    assert_eq!(refused(&Sheet::new().tensor("t", 0, &[1; 5]).bytes(), 3, 32), (31, 1));
-    assert_eq!(refused(&Sheet::new().array("k", Type::Array, []).bytes(), 3, 32), (31, 1));
-    assert_eq!(refused(&[1], 3, 0), (32, 0));
-    assert_eq!(refused(&[1], 3, 12), (32, 0));
-    assert_eq!(refused(&[1], 3, 1 << 32), (33, 0));
-    let aligned = Sheet::new().entry("general.alignment", Value::I64(64)).bytes();
-    assert_eq!(refused(&aligned, 3, 32), (34, 0));
-    assert!(written(&aligned, 3, LITTLE, 64).0.is_ok());
+fn refusals_of_arguments_and_of_raw_sheets() {
+    assert_eq!(refused_bytes(&[], 0, 0), (30, Place::Nowhere));
+    assert_eq!(refused_bytes(&[1], 4, 32), (30, Place::Nowhere));
+    assert_eq!(refused_bytes(&[], 3, 32), (31, Place::Sheet(0)));
+    assert_eq!(refused_bytes(&[2], 3, 32), (31, Place::Sheet(0)));
+    assert_eq!(refused_bytes(&[1, 0, 0], 3, 32), (31, Place::Sheet(1)));
+    let (answer, _) = written(&[1, 0, 0], 3, LITTLE, 32);
+    let words = "refused 31 at byte 1 of the sheet: the sheet is not well formed";
+    assert_eq!(answer.unwrap_err().to_string(), words);
+    // Metadata after a tensor, and a key twice.
+    let metadata = Sheet::new().entry("k", Value::U8(5)).bytes().unwrap();
+    let tensor = Sheet::new().tensor("t", 0, &[]).bytes().unwrap();
+    let late = [&tensor, &metadata[1..]].concat();
+    assert_eq!(refused_bytes(&late, 3, 32), (31, Place::Sheet(tensor.len() as u64)));
+    let twice = [&metadata, &metadata[1..]].concat();
+    assert_eq!(refused_bytes(&twice, 3, 32), (31, Place::Sheet(metadata.len() as u64)));
+    assert_eq!(refused_bytes(&[1], 3, 0), (32, Place::Nowhere));
+    assert_eq!(refused_bytes(&[1], 3, 12), (32, Place::Nowhere));
+    assert_eq!(refused_bytes(&[1], 3, 1 << 32), (33, Place::Nowhere));
+}
+
+#[test]
+fn refusals_of_sheets() {
+    assert_eq!(refused(&Sheet::new().tensor("t", 0, &[1; 5])), (31, Place::Sheet(1)));
+    assert_eq!(refused(&Sheet::new().tensor("t", 0, &[1; 300])), (31, Place::Sheet(1)));
+    assert_eq!(refused(&Sheet::new().array("k", Type::Array, [])), (31, Place::Sheet(1)));
+    let aligned = Sheet::new().entry("general.alignment", Value::I64(64));
+    assert_eq!(refused(&aligned), (34, Place::Nowhere));
+    assert!(WriteOptions::new().alignment(64).to_vec(&aligned).is_ok());
     for kind in [4, 5, 31, 32, 33, 36, 37, 38, 40, 41, u32::MAX] {
-        assert_eq!(refused(&two_tensors().tensor("c", kind, &[]).bytes(), 3, 32), (35, 2));
+        assert_eq!(refused(&two_tensors().tensor("c", kind, &[])), (35, Place::Tensor(2)));
     }
-    assert_eq!(refused(&Sheet::new().tensor("t", 0, &[1 << 32, 1 << 32, 0]).bytes(), 3, 32), (13, 0));
-    assert_eq!(refused(&two_tensors().tensor("t", 0, &[1 << 62]).bytes(), 3, 32), (14, 2));
-    assert_eq!(refused(&Sheet::new().tensor("t", 24, &[u64::MAX]).tensor("u", 24, &[1]).bytes(), 3, 32), (15, 1));
-    assert_eq!(refused(&Sheet::new().tensor("t", 0, &[(1 << 62) - 1]).bytes(), 3, 32), (36, 0));
+    let product = Sheet::new().tensor("t", 0, &[1 << 32, 1 << 32, 0]);
+    assert_eq!(refused(&product), (13, Place::Tensor(0)));
+    let size = two_tensors().tensor("t", 0, &[1 << 62]);
+    assert_eq!(refused(&size), (14, Place::Tensor(2)));
+    let total = Sheet::new().tensor("t", Kind::I8, &[u64::MAX]).tensor("u", Kind::I8, &[1]);
+    assert_eq!(refused(&total), (15, Place::Tensor(1)));
+    let offset = Sheet::new().tensor("t", 0, &[(1 << 62) - 1]);
+    assert_eq!(refused(&offset), (36, Place::Tensor(0)));
+    let Err(error) = size.to_vec() else { panic!("not refused") };
+    assert_eq!(error.to_string(), "the header was not written");
+    let words = "refused 14 at tensor 2: the tensor's size is above 2^64 - 1 before its division";
+    assert_eq!(error.source().unwrap().to_string(), words);
+}
+
+#[test]
+fn sheets_that_cannot_be_made() {
+    let mixed = Sheet::new().array("m", Type::U8, [Value::U8(1), Value::I8(1)]);
+    let other_type =
+        SheetError::ItemType { key: b"m".to_vec(), expected: Type::U8, found: Type::I8 };
+    assert_eq!(mixed.bytes(), Err(other_type.clone()));
+    assert_eq!(other_type.to_string(), "the array \"m\" of u8 has an item of type i8");
+    let mut out = [7; 256];
+    assert_eq!(mixed.write(&mut out), Err(WriteError::Sheet(other_type.clone())));
+    assert_eq!(out, [7; 256]);
+    assert_eq!(mixed.to_vec(), Err(WriteError::Sheet(other_type.clone())));
+
+    let file = made(3, false, 0, 1).array("k", 0, 1).number(1, 5).bytes.clone();
+    let array = read(&file).unwrap().get("k").unwrap();
+    let nested = SheetError::NestedArray { key: b"n".to_vec() };
+    for item_type in [Type::Array, Type::U8] {
+        let sheet = Sheet::new().array("n", item_type, [array]);
+        assert_eq!(sheet.bytes(), Err(nested.clone()));
+    }
+    assert_eq!(nested.to_string(), "the array \"n\" has an array as an item");
+
+    // The first error stays, whatever comes after it.
+    let later = mixed.array("n", Type::Array, [array]).entry("m", Value::U8(1)).tensor("t", 0, &[]);
+    assert_eq!(later.bytes(), Err(other_type.clone()));
+    let error = WriteError::from(other_type);
+    assert_eq!(error.to_string(), "the sheet can't be made");
+    assert!(error.source().unwrap().to_string().contains("item of type i8"));
 }
 
 /// Every type, as a value and in an array.
@@ -119,10 +202,10 @@ fn every_type() -> Sheet {
         Value::F64(1e300),
     ];
     values.iter().fold(Sheet::new(), |sheet, value| {
-        let name = value.value_type().name();
-        sheet.entry(name, *value).array(format!("{name}s"), value.value_type(), [*value, *value]).array(
+        let (item_type, name) = (value.value_type(), value.value_type().name());
+        sheet.entry(name, *value).array(format!("{name}s"), item_type, [*value, *value]).array(
             format!("no {name}"),
-            value.value_type(),
+            item_type,
             [],
         )
     })
@@ -130,24 +213,75 @@ fn every_type() -> Sheet {
 
 #[test]
 fn read_back() {
-    for version in 1..=3 {
-        for order in [LITTLE, ByteOrder::Big] {
-            let sheet = every_type().tensor("t", 2, &[32, 2]);
-            let mut out = [7; 2048];
-            let answer = write_header(&sheet.bytes(), version, order, 16, &mut out).unwrap();
-            let header = read(&out[..answer.header_end as usize]).unwrap();
-            assert_eq!((header.version(), header.byte_order(), header.alignment()), (version, order, 16));
-            assert_eq!((header.header_end(), header.data_start()), (answer.header_end, answer.data_start));
-            assert_eq!(header.entries().len(), 37);
-            assert_eq!(header.get("i16"), Some(Value::I16(-300)));
-            assert_eq!(header.get("strings").unwrap().as_array().unwrap().iter().nth(1), Some(Value::String(b"text")));
-            assert_eq!(header.get("no f64").unwrap().as_array().unwrap().item_type(), Type::F64);
-            // What was read, written again, is the same.
-            let again = header.entries().fold(Sheet::new(), |sheet, entry| sheet.entry(entry.key(), entry.value()));
-            let again = header.tensors().fold(again, |sheet, tensor| sheet.tensor(tensor.name(), tensor.kind(), tensor.lengths()));
-            let mut out_again = [7; 2048];
-            assert_eq!(write_header(&again.bytes(), version, order, 16, &mut out_again), Ok(answer));
-            assert_eq!(out, out_again);
+    let sheet = every_type().tensor("t", Kind::Q4_0, &[32, 2]);
+    for (version, order) in [(1, LITTLE), (2, LITTLE), (3, LITTLE), (1, BIG), (2, BIG), (3, BIG)] {
+        let options = WriteOptions::new().version(version).byte_order(order).alignment(16);
+        let file = options.to_vec(&sheet).unwrap();
+        let header = read(&file).unwrap();
+        assert_eq!((header.version(), header.byte_order()), (version, order));
+        assert_eq!((header.alignment(), header.data_start()), (16, file.len() as u64));
+        assert_eq!(header.entries().len(), 37);
+        assert_eq!(header.get("i16"), Some(Value::I16(-300)));
+        let strings = header.get("strings").unwrap().as_array().unwrap();
+        assert_eq!(strings.iter().nth(1), Some(Value::String(b"text")));
+        let empty = header.get("no f64").unwrap().as_array().unwrap();
+        assert_eq!((empty.item_type(), empty.len()), (Type::F64, 0));
+        // What was read, written again, is the same.
+        let again = header
+            .entries()
+            .fold(Sheet::new(), |sheet, entry| sheet.entry(entry.key(), entry.value()));
+        let again = header.tensors().fold(again, |sheet, tensor| {
+            sheet.tensor(tensor.name(), tensor.kind(), tensor.lengths())
+        });
+        assert_eq!(options.to_vec(&again), Ok(file));
+    }
+}
+
+#[test]
+fn an_entry_replaces_one_of_its_key() {
+    let once = Sheet::new().entry("k", Value::U8(2));
+    assert_eq!(Sheet::new().entry("k", Value::String(b"one")).entry("k", Value::U8(2)), once);
+    assert_eq!(Sheet::new().array("k", Type::U8, []).entry("k", Value::U8(2)), once);
+}
+
+#[test]
+fn a_vector_has_room_for_what_grows_most() {
+    // Strings of no bytes in an array, arrays of no items, entries and tensors of no name: each
+    // alone and many times, with every size of padding.
+    let none = Value::String(b"");
+    let mut sheets = vec![Sheet::new(), two_tensors(), every_type()];
+    for count in [1, 2, 50, 999] {
+        sheets.push(Sheet::new().array("", Type::String, vec![none; count]));
+        sheets.push((0..count).fold(Sheet::new(), |sheet, _| sheet.tensor("", 0, &[])));
+        let keys = (0..count).map(|index| format!("{index}"));
+        sheets.push(keys.fold(Sheet::new(), |sheet, key| sheet.array(key, Type::U8, [])));
+    }
+    for sheet in &sheets {
+        for (version, alignment) in [(1, 32), (2, 8), (3, 32), (3, 8), (3, 24), (3, 4096)] {
+            let options = WriteOptions::new().version(version).alignment(alignment);
+            let file = options.to_vec(sheet).unwrap();
+            let mut out = vec![7; file.len()];
+            let answer = options.write(sheet, &mut out).unwrap();
+            assert_eq!((answer.data_start, &out), (file.len() as u64, &file));
+            let end = answer.header_end as usize;
+            assert!(file.len() - end < alignment as usize && file[end..].iter().all(|b| *b == 0));
         }
+    }
+}
+
+#[test]
+fn a_vector_that_no_memory_holds() {
+    // The data would start at 2^63: no vector is that long.
+    let sheet = Sheet::new().entry("general.alignment", Value::U64(1 << 63));
+    let Err(WriteError::Refused(refusal)) = WriteOptions::new().alignment(1 << 63).to_vec(&sheet)
+    else {
+        panic!("2^63 bytes were written")
+    };
+    assert_eq!(refusal.reason(), Reason::OutputTooShort);
+    // What is refused anyway asks for no memory.
+    for (alignment, number) in [(0, 32), (12, 32), (1 << 40, 33), (u64::MAX - 7, 33)] {
+        let answer = WriteOptions::new().alignment(alignment).to_vec(&two_tensors());
+        let Err(WriteError::Refused(refusal)) = answer else { panic!("not refused") };
+        assert_eq!(refusal.number(), number);
     }
 }

@@ -1,5 +1,15 @@
-//! Files for tests, made field by field.
+//! Files for tests, made field by field, and what tests ask of refusals.
 #![allow(dead_code)]
+
+use strutpebble::{Place, Refusal};
+
+/// The number of a reader's refusal, and its byte of the prefix.
+pub fn number_and_byte(refusal: Refusal) -> (u64, u64) {
+    match refusal.place() {
+        Place::Prefix(byte) => (refusal.number(), byte),
+        other => panic!("a reader's refusal at {other}"),
+    }
+}
 
 pub struct Made {
     pub bytes: Vec<u8>,
@@ -61,4 +71,17 @@ impl Made {
 /// The tensors a (kind 0, length 5) and b (kind 1, length 3).
 pub fn a_and_b(version: u32, big: bool) -> Vec<u8> {
     made(version, big, 2, 0).tensor("a", &[5], 0, 0).tensor("b", &[3], 1, 32).bytes.clone()
+}
+
+/// A header of so many of the shortest records: keys and names of no bytes, values of one byte, and
+/// tensors of no dimension.
+pub fn shortest(version: u32, big: bool, tensors: u64, entries: u64) -> Vec<u8> {
+    let mut file = made(version, big, tensors, entries);
+    for _ in 0..entries {
+        file.key("", 0).number(1, 5);
+    }
+    for _ in 0..tensors {
+        file.tensor("", &[], 0, 0);
+    }
+    file.bytes
 }
