@@ -53,7 +53,8 @@ const BOOL: u32 = 7;
 const TEXT: u32 = 8;
 const ARRAY: u32 = 9;
 
-const TEMPLATE: &str = "{% for message in messages %}{{ '<|' + message['role'] + '|>\\n' + message['content'] | trim + '<|end|>\\n' }}\
+const TEMPLATE: &str = "{% for message in messages %}\
+    {{ '<|' + message['role'] + '|>\\n' + message['content'] | trim + '<|end|>\\n' }}\
     {% endfor %}{% if add_generation_prompt %}{{ '<|assistant|>\\n' }}{% endif %}";
 
 struct Made {
@@ -181,40 +182,50 @@ impl Made {
     }
 
     fn tensors(&mut self, count: u64) {
-        /// The nine tensors of a block: name, lengths (0 ends them), kind.
-        const BLOCK: [(&str, [u64; 2], u32); 9] = [
-            ("attn_norm", [4096, 0], 0),
-            ("ffn_down", [14336, 4096], 14),
-            ("ffn_gate", [4096, 14336], 12),
-            ("ffn_up", [4096, 14336], 12),
-            ("ffn_norm", [4096, 0], 0),
-            ("attn_k", [4096, 1024], 12),
-            ("attn_output", [4096, 4096], 12),
-            ("attn_q", [4096, 4096], 12),
-            ("attn_v", [4096, 1024], 14),
-        ];
         let mut offset = 0;
-        for i in 0..count {
-            let (name, lengths, kind) = if i == 0 {
-                ("token_embd.weight".into(), [4096, 128256], 12)
-            } else if i + 1 == count {
-                ("output.weight".into(), [4096, 128256], 14)
-            } else if i + 2 == count {
-                ("output_norm.weight".into(), [4096, 0], 0)
-            } else {
-                let (part, lengths, kind) = BLOCK[(i - 1) as usize % 9];
-                (format!("blk.{}.{part}.weight", (i - 1) / 9), lengths, kind)
-            };
-            let lengths: Vec<u64> = lengths.into_iter().filter(|n| *n > 0).collect();
+        for index in 0..count {
+            let (name, lengths, kind) = tensor(index, count);
             self.text(name.as_bytes());
             self.u32(lengths.len() as u32);
             lengths.iter().for_each(|n| self.u64(*n));
             self.u32(kind);
             self.u64(offset);
-            // Bytes of 256 lengths of the three kinds in use; each product here is a multiple of 32
-            // of them.
-            let blocks: u64 = lengths.iter().product::<u64>() / 256;
-            offset += blocks * match kind { 0 => 1024, 12 => 144, _ => 210 };
+            // Bytes of 256 numbers of the three kinds in use. Every product of lengths here is a
+            // multiple of 256.
+            let bytes = match kind {
+                0 => 1024,
+                12 => 144,
+                _ => 210,
+            };
+            offset += lengths.iter().product::<u64>() / 256 * bytes;
         }
     }
+}
+
+/// The nine tensors of a block: name, lengths (0 ends them), kind.
+const BLOCK: [(&str, [u64; 2], u32); 9] = [
+    ("attn_norm", [4096, 0], 0),
+    ("ffn_down", [14336, 4096], 14),
+    ("ffn_gate", [4096, 14336], 12),
+    ("ffn_up", [4096, 14336], 12),
+    ("ffn_norm", [4096, 0], 0),
+    ("attn_k", [4096, 1024], 12),
+    ("attn_output", [4096, 4096], 12),
+    ("attn_q", [4096, 4096], 12),
+    ("attn_v", [4096, 1024], 14),
+];
+
+/// The name, lengths and kind of a tensor of a model with so many.
+fn tensor(index: u64, count: u64) -> (String, Vec<u64>, u32) {
+    let (name, lengths, kind) = if index == 0 {
+        ("token_embd.weight".into(), [4096, 128256], 12)
+    } else if index + 1 == count {
+        ("output.weight".into(), [4096, 128256], 14)
+    } else if index + 2 == count {
+        ("output_norm.weight".into(), [4096, 0], 0)
+    } else {
+        let (part, lengths, kind) = BLOCK[(index - 1) as usize % 9];
+        (format!("blk.{}.{part}.weight", (index - 1) / 9), lengths, kind)
+    };
+    (name, lengths.into_iter().filter(|n| *n > 0).collect(), kind)
 }

@@ -1,4 +1,5 @@
-//! The two readers that are compared, each called as it is in use, on bytes in memory.
+//! The two readers that are compared, each called as it is in use, on bytes in memory. This
+//! project's reader is called through its Rust crate.
 
 pub mod inputs;
 #[allow(dead_code, unused)]
@@ -8,22 +9,15 @@ mod original;
 pub use original::GGUFModel;
 use original::{ByteOrder, GGUFContainer, FILE_MAGIC_GGUF_BE, FILE_MAGIC_GGUF_LE};
 use std::io::Cursor;
-
-#[link(name = "strutpebble", kind = "static")]
-extern "C" {
-    fn sp_read(
-        prefix: *const u8, prefix_len: usize, versions: u32, kinds: u32, cap: u64,
-        entries: *mut [u64; 7], entry_rows: usize, tensors: *mut [u64; 10], tensor_rows: usize, answer: *mut [u64; 8],
-    ) -> u64;
-}
+use strutpebble::{EntryRow, Options, Refusal, Summary, TensorRow};
 
 /// How many rows the tables have: enough for every input.
 pub const ROWS: usize = 1024;
 
 /// The tables that are lent to this project's reader.
 pub struct Tables {
-    pub entries: Vec<[u64; 7]>,
-    pub tensors: Vec<[u64; 10]>,
+    pub entries: Vec<EntryRow>,
+    pub tensors: Vec<TensorRow>,
 }
 
 impl Tables {
@@ -31,17 +25,15 @@ impl Tables {
         Tables { entries: vec![[0; 7]; ROWS], tensors: vec![[0; 10]; ROWS] }
     }
 
-    /// This project's reader: 0 or a refusal's number, and the answer's words.
-    pub fn read(&mut self, bytes: &[u8]) -> (u64, [u64; 8]) {
-        let mut answer = [0; 8];
-        // SAFETY: each pointer comes with the count of what it points to.
-        let number = unsafe {
-            sp_read(
-                bytes.as_ptr(), bytes.len(), 3, 39, 3,
-                self.entries.as_mut_ptr(), ROWS, self.tensors.as_mut_ptr(), ROWS, &mut answer,
-            )
-        };
-        (number, answer)
+    /// This project's reader, which fills the lent tables.
+    pub fn read(&mut self, bytes: &[u8]) -> Result<Summary, Refusal> {
+        Options::new().read_rows(bytes, &mut self.entries, &mut self.tensors)
+    }
+}
+
+impl Default for Tables {
+    fn default() -> Tables {
+        Tables::new()
     }
 }
 

@@ -6,36 +6,34 @@ use crate::questions::Asked;
 use serde_json::Value;
 use std::collections::BTreeMap;
 use std::io::Cursor;
-
-#[link(name = "strutpebble", kind = "static")]
-extern "C" {
-    fn sp_read(
-        prefix: *const u8, prefix_len: usize, versions: u32, kinds: u32, cap: u64,
-        entries: *mut [u64; 7], entry_rows: usize, tensors: *mut [u64; 10], tensor_rows: usize, answer: *mut [u64; 8],
-    ) -> u64;
-}
+use strutpebble::{EntryRow, Header, Options, Place, Refusal, Summary, TensorRow};
 
 const ROWS: usize = 160;
-const UNTOUCHED_ENTRY: [u64; 7] = [7; 7];
-const UNTOUCHED_TENSOR: [u64; 10] = [9; 10];
+const UNTOUCHED_ENTRY: EntryRow = [7; 7];
+const UNTOUCHED_TENSOR: TensorRow = [9; 10];
 
-/// What this project's reader said.
-struct Ours {
-    number: u64,
-    answer: [u64; 8],
-    entries: Vec<[u64; 7]>,
-    tensors: Vec<[u64; 10]>,
+/// What this project's reader said: into tables that were lent, and by the crate's own `read`.
+struct Ours<'a> {
+    answer: Result<Summary, Refusal>,
+    entries: Vec<EntryRow>,
+    tensors: Vec<TensorRow>,
+    header: Result<Header<'a>, Refusal>,
 }
 
-fn ours(bytes: &[u8], cap: u64) -> Ours {
+fn ours(bytes: &[u8], cap: u64) -> Ours<'_> {
+    let options = Options::new().cap(cap);
     let mut entries = vec![UNTOUCHED_ENTRY; ROWS];
     let mut tensors = vec![UNTOUCHED_TENSOR; ROWS];
-    let mut answer = [0; 8];
-    // SAFETY: each pointer comes with the count of what it points to.
-    let number = unsafe {
-        sp_read(bytes.as_ptr(), bytes.len(), 3, 39, cap, entries.as_mut_ptr(), ROWS, tensors.as_mut_ptr(), ROWS, &mut answer)
-    };
-    Ours { number, answer, entries, tensors }
+    let answer = options.read_rows(bytes, &mut entries, &mut tensors);
+    Ours { answer, entries, tensors, header: options.read(bytes) }
+}
+
+/// The number of a reader's refusal, whose place is a byte of the input or the byte after its last.
+fn number_of(refusal: Refusal, bytes: &[u8]) -> u64 {
+    match refusal.place() {
+        Place::Prefix(byte) if byte <= bytes.len() as u64 => refusal.number(),
+        other => panic!("refused at {other}: {bytes:?}"),
+    }
 }
 
 /// The refusal's number that an error of the original stands for.
@@ -75,9 +73,14 @@ fn theirs(bytes: &[u8], cap: u64) -> Result<(GGUFModel, bool), u64> {
     container.decode().map(|model| (model, big)).map_err(|error| class(&error.to_string()))
 }
 
-/// A text where a row, or an answer, says that it is.
-pub fn text(bytes: &[u8], place: u64, len: u64) -> String {
-    String::from_utf8_lossy(&bytes[place as usize..(place + len) as usize]).to_string()
+/// The bytes where a row says that a text is.
+fn part(bytes: &[u8], place: u64, len: u64) -> &[u8] {
+    &bytes[place as usize..(place + len) as usize]
+}
+
+/// The text where a row says that it is.
+fn text(bytes: &[u8], place: u64, len: u64) -> String {
+    String::from_utf8_lossy(part(bytes, place, len)).to_string()
 }
 
 /// A scalar of a type from its bits, as the original shows it.
@@ -95,11 +98,15 @@ fn scalar(kind: u64, bits: u64) -> Value {
 }
 
 /// The kept items of an array, read where its row says that they are.
-fn items(row: &[u64; 7], bytes: &[u8], big: bool, version: u64) -> Value {
+fn items(row: &EntryRow, bytes: &[u8], big: bool, version: u32) -> Value {
     let number = |place: usize, width: usize| {
         let field = &bytes[place..place + width];
         let digit = |value: u64, byte: &u8| value << 8 | u64::from(*byte);
-        if big { field.iter().fold(0, digit) } else { field.iter().rev().fold(0, digit) }
+        if big {
+            field.iter().fold(0, digit)
+        } else {
+            field.iter().rev().fold(0, digit)
+        }
     };
     let size = if version == 1 { 4 } else { 8 };
     let (kind, kept) = (row[3], row[5]);
@@ -120,7 +127,7 @@ fn items(row: &[u64; 7], bytes: &[u8], big: bool, version: u64) -> Value {
 }
 
 /// An entry row's value. A signed scalar stands in its word in 64 bits.
-fn value(row: &[u64; 7], bytes: &[u8], big: bool, version: u64) -> Value {
+fn value(row: &EntryRow, bytes: &[u8], big: bool, version: u32) -> Value {
     match row[2] {
         8 => Value::from(text(bytes, row[3], row[4])),
         9 => items(row, bytes, big, version),
@@ -135,7 +142,7 @@ pub struct Agreed {
     by_number: BTreeMap<u64, u64>,
     panics: u64,
     no_rows: u64,
-    /// What the questions told of the same inputs.
+    /// What the questions answered of the same inputs.
     pub asked: Asked,
 }
 
@@ -143,61 +150,100 @@ impl Agreed {
     /// Gives one input to both. Panics where they differ.
     pub fn on(&mut self, bytes: &[u8], cap: u64) {
         let ours = ours(bytes, cap);
-        if ours.number == 6 {
-            // More records than rows: outside the domain, since the original has no rows.
+        let number = ours.answer.err().map_or(0, |refusal| number_of(refusal, bytes));
+        if number == 6 {
+            // More records than rows: outside the domain, since the original has no rows. The crate
+            // has rows for every count, and never gives this refusal.
+            assert_ne!(ours.header.err().map(|refusal| refusal.number()), Some(6), "{bytes:?}");
             self.no_rows += 1;
             return;
         }
+        let own = ours.header.as_ref().map(|header| header.summary());
+        assert_eq!(own, ours.answer.as_ref().copied(), "the crate's own rows: {bytes:?}");
         match std::panic::catch_unwind(|| theirs(bytes, cap)) {
             Err(_) => {
-                assert_eq!(ours.number, 11, "the original panics, and this is not kind 40: {bytes:?}");
+                assert_eq!(number, 11, "the original panics, and this is not kind 40: {bytes:?}");
                 self.panics += 1;
                 return;
             }
-            Ok(Err(number)) => {
-                assert_eq!(ours.number, number, "refused at {}: {bytes:?}", ours.answer[0]);
-                assert!(ours.entries.iter().all(|row| *row == UNTOUCHED_ENTRY), "rows on a refusal: {bytes:?}");
-                assert!(ours.tensors.iter().all(|row| *row == UNTOUCHED_TENSOR), "rows on a refusal: {bytes:?}");
-                self.asked.on_refusal(bytes, ours.number, ours.answer[0]);
-            }
+            Ok(Err(class)) => self.on_refusal(&ours, class, bytes),
             Ok(Ok((model, big))) => {
                 same_header(&ours, &model, big, bytes);
                 self.asked.on(bytes, &model);
             }
         }
-        *self.by_number.entry(ours.number).or_default() += 1;
+        *self.by_number.entry(number).or_default() += 1;
     }
 
-    pub fn tell(&self) {
+    /// The original refuses, for a reason of this class: so must this project, and leave the tables
+    /// as they were.
+    fn on_refusal(&mut self, ours: &Ours, class: u64, bytes: &[u8]) {
+        let refusal = ours.answer.expect_err("accepted, and the original refuses");
+        assert_eq!(refusal.number(), class, "refused at {}: {bytes:?}", refusal.place());
+        let left = ours.entries.iter().all(|row| *row == UNTOUCHED_ENTRY);
+        assert!(left && ours.tensors.iter().all(|row| *row == UNTOUCHED_TENSOR), "rows: {bytes:?}");
+        self.asked.on_refusal(bytes, refusal);
+    }
+
+    pub fn print(&self) {
         let all: u64 = self.by_number.values().sum();
         for (number, count) in &self.by_number {
-            println!("{:>9}  {}", count, if *number == 0 { "accepted".into() } else { format!("refused {number}") });
+            println!(
+                "{:>9}  {}",
+                count,
+                if *number == 0 { "accepted".into() } else { format!("refused {number}") }
+            );
         }
-        println!("{:>9}  kind 40, where the original panics and this reader refuses 11", self.panics);
+        println!(
+            "{:>9}  kind 40, where the original panics and this reader refuses 11",
+            self.panics
+        );
         println!("{:>9}  more records than rows, not compared", self.no_rows);
         println!("{:>9}  compared, no difference", all + self.panics);
     }
 }
 
+/// Panics where the original's model is not what this project's reader said.
 fn same_header(ours: &Ours, model: &GGUFModel, big: bool, bytes: &[u8]) {
-    assert_eq!(ours.number, 0, "refused at {}: {bytes:?}", ours.answer[0]);
-    let [version, order, entries, tensors, alignment, _, start, _] = ours.answer;
+    let summary = ours.answer.unwrap_or_else(|refusal| panic!("{refusal}: {bytes:?}"));
+    let Summary { version, entries, tensors, alignment, header_end, data_start, .. } = summary;
     assert_eq!(format!("v{version}"), model.get_version());
-    assert_eq!(order, u64::from(big));
-    assert_eq!((entries, tensors), (model.num_kv(), model.num_tensor()));
-    assert_eq!((alignment, start), (model.alignment(), model.data_offset()), "{bytes:?}");
-    let (rows, rest) = ours.entries.split_at(entries as usize);
+    assert_eq!(summary.byte_order == strutpebble::ByteOrder::Big, big);
+    assert_eq!((entries as u64, tensors as u64), (model.num_kv(), model.num_tensor()));
+    assert_eq!((alignment, data_start), (model.alignment(), model.data_offset()), "{bytes:?}");
+    assert!(header_end <= bytes.len() as u64 && header_end <= data_start, "{bytes:?}");
+    let (rows, rest) = ours.entries.split_at(entries);
     assert!(rest.iter().all(|row| *row == UNTOUCHED_ENTRY));
-    let surviving: BTreeMap<String, Value> =
-        rows.iter().map(|row| (text(bytes, row[0], row[1]), value(row, bytes, big, version))).collect();
+    let surviving: BTreeMap<String, Value> = rows
+        .iter()
+        .map(|row| (text(bytes, row[0], row[1]), value(row, bytes, big, version)))
+        .collect();
     assert_eq!(&surviving, model.metadata(), "{bytes:?}");
-    let (rows, rest) = ours.tensors.split_at(tensors as usize);
+    let (rows, rest) = ours.tensors.split_at(tensors);
     assert!(rest.iter().all(|row| *row == UNTOUCHED_TENSOR));
     for (row, tensor) in rows.iter().zip(model.tensors()) {
-        let mut lengths = [1; 4];
-        lengths[..tensor.shape.len()].copy_from_slice(&tensor.shape);
-        assert_eq!(text(bytes, row[0], row[1]), tensor.name);
-        assert_eq!((row[2], row[3]), (tensor.kind.into(), tensor.n_dimensions.into()), "{bytes:?}");
-        assert_eq!((&row[4..8], row[8], row[9]), (&lengths[..], tensor.offset, tensor.size), "{bytes:?}");
+        same_tensor(row, tensor, bytes);
     }
+    let header = ours.header.as_ref().expect("the crate refuses a header that its reader accepts");
+    same_rows(header, &ours.entries[..entries], &ours.tensors[..tensors], bytes);
+}
+
+fn same_tensor(row: &TensorRow, tensor: &Tensor, bytes: &[u8]) {
+    let mut lengths = [1; 4];
+    lengths[..tensor.shape.len()].copy_from_slice(&tensor.shape);
+    assert_eq!(text(bytes, row[0], row[1]), tensor.name);
+    assert_eq!((row[2], row[3]), (tensor.kind.into(), tensor.n_dimensions.into()), "{bytes:?}");
+    let numbers = (&row[4..8], row[8], row[9]);
+    assert_eq!(numbers, (&lengths[..], tensor.offset, tensor.size), "{bytes:?}");
+}
+
+/// Panics where a header of the crate has other records than the rows that its reader filled.
+fn same_rows(header: &Header, entries: &[EntryRow], tensors: &[TensorRow], bytes: &[u8]) {
+    let keys = entries.iter().map(|row| (part(bytes, row[0], row[1]), row[2]));
+    let own = header.entries().map(|entry| (entry.key(), entry.value().value_type() as u64));
+    assert!(own.eq(keys), "the crate's entries: {bytes:?}");
+    let rows =
+        tensors.iter().map(|row| (part(bytes, row[0], row[1]), row[2] as u32, row[8], row[9]));
+    let own = header.tensors().map(|t| (t.name(), t.kind().number(), t.offset(), t.size()));
+    assert!(own.eq(rows), "the crate's tensors: {bytes:?}");
 }

@@ -123,7 +123,20 @@ fn tensor(made: &mut Made, random: &mut Random) {
     made.number(4, dimensions);
     for _ in 0..dimensions {
         let small = random.below(300);
-        let length = random.pick(&[1 << 32, 0, u64::MAX, 1 << 62, (1 << 62) - 1, 1 << 63, 1 << 16, small, small, small, small, small]);
+        let length = random.pick(&[
+            1 << 32,
+            0,
+            u64::MAX,
+            1 << 62,
+            (1 << 62) - 1,
+            1 << 63,
+            1 << 16,
+            small,
+            small,
+            small,
+            small,
+            small,
+        ]);
         made.number(8, length);
     }
     let known = random.below(40);
@@ -146,9 +159,50 @@ const ALMOST: [&[u8]; 6] = [
 
 /// Numbers that are file types, that are almost, and that are one in fewer bytes.
 const FILE_TYPES: [u64; 44] = [
-    0, 1, 2, 3, 4, 5, 6, 7, 8, 9, 10, 11, 12, 13, 14, 15, 16, 17, 18, 19, 20, 21, 22, 23, 24, 25, 26, 31, 39,
-    127, 128, 255, 256 + 7, 32768, 65535, 65536 + 24, 1 << 31, (1 << 32) - 24, (1 << 32) - 1, (1 << 32) + 5,
-    1 << 63, (1 << 63) + 1, u64::MAX - 23, u64::MAX,
+    0,
+    1,
+    2,
+    3,
+    4,
+    5,
+    6,
+    7,
+    8,
+    9,
+    10,
+    11,
+    12,
+    13,
+    14,
+    15,
+    16,
+    17,
+    18,
+    19,
+    20,
+    21,
+    22,
+    23,
+    24,
+    25,
+    26,
+    31,
+    39,
+    127,
+    128,
+    255,
+    256 + 7,
+    32768,
+    65535,
+    65536 + 24,
+    1 << 31,
+    (1 << 32) - 24,
+    (1 << 32) - 1,
+    (1 << 32) + 5,
+    1 << 63,
+    (1 << 63) + 1,
+    u64::MAX - 23,
+    u64::MAX,
 ];
 
 /// An entry of a type, whose value is this number or this text, or an array of one such item.
@@ -168,8 +222,13 @@ fn entry_of(made: &mut Made, key: &[u8], kind: u64, number: u64, text: &[u8]) {
 
 /// An entry that a question may look up: any type under either key, or under one that is almost it.
 fn asked_entry(made: &mut Made, random: &mut Random) {
-    const TEXTS: [&[u8]; 7] = [b"llama", b"", b"unknown", b"7", b"general.architecture", "é".as_bytes(), b"\xff\xfe"];
-    let key = if random.below(6) == 0 { random.pick(&ALMOST) } else { random.pick(&[ARCHITECTURE, FILE_TYPE]) };
+    const TEXTS: [&[u8]; 7] =
+        [b"llama", b"", b"unknown", b"7", b"general.architecture", "é".as_bytes(), b"\xff\xfe"];
+    let key = if random.below(6) == 0 {
+        random.pick(&ALMOST)
+    } else {
+        random.pick(&[ARCHITECTURE, FILE_TYPE])
+    };
     let any = random.below(13);
     let kind = if key == ARCHITECTURE { random.pick(&[8, any]) } else { any };
     let any = random.next() ^ (random.next() << 40);
@@ -226,7 +285,12 @@ fn start(version: u64, big: bool, tensors: u64, entries: u64) -> Made {
 
 /// A header of any version and byte order, with up to three tensors, and `least` entries or fewer
 /// than `spread` more, each made by `entry`.
-fn with_entries(random: &mut Random, least: u64, spread: u64, entry: fn(&mut Made, &mut Random)) -> Made {
+fn with_entries(
+    random: &mut Random,
+    least: u64,
+    spread: u64,
+    entry: fn(&mut Made, &mut Random),
+) -> Made {
     let big = random.below(2) == 1;
     let version = random.pick(&[1, 2, 3, 3]);
     let tensors = random.below(4);

@@ -19,7 +19,7 @@ mod writers;
 use original::{FILE_MAGIC_GGUF_LE, GGUF_VERSION_V1, GGUF_VERSION_V2, GGUF_VERSION_V3};
 
 use compare::Agreed;
-use inputs::{asked_header, damaged, every_answer, header, long_header, Random};
+use inputs::{asked_header, damaged, every_answer, header, long_header, Made, Random};
 use questions::Asked;
 
 fn main() {
@@ -43,11 +43,28 @@ fn main() {
     }
 }
 
-/// Holds the readers against each other, and hands on what the questions told of the same inputs.
+/// Holds the readers against each other, and hands on what the questions answered of the same
+/// inputs.
 fn compare_readers(headers: u64) -> Asked {
     let mut random = Random::new(0x9E37_79B9_7F4A_7C15);
     let mut agreed = Agreed::default();
-    // Every input of up to two bytes, and every magic that stands for something.
+    on_short_inputs(&mut agreed);
+    for _ in 0..headers {
+        let made = header(&mut random);
+        let cap = [3, 0, 1, 100][random.below(4) as usize];
+        on_copies(&mut agreed, &made, cap, 1, &mut random);
+    }
+    for _ in 0..headers / 25 {
+        let made = long_header(&mut random);
+        on_copies(&mut agreed, &made, 3, 7, &mut random);
+    }
+    println!("The readers");
+    agreed.print();
+    agreed.asked
+}
+
+/// Every input of up to two bytes, and every magic that stands for something.
+fn on_short_inputs(agreed: &mut Agreed) {
     for first in 0..=255u8 {
         agreed.on(&[first], 3);
         for second in 0..=255u8 {
@@ -55,34 +72,23 @@ fn compare_readers(headers: u64) -> Asked {
         }
     }
     agreed.on(&[], 3);
-    for magic in [0x6767_6d6cu32, 0x6767_6d66, 0x6767_6a74, 0x6767_6c61, 0x4655_4747, 0x4747_5546, 0] {
+    for magic in
+        [0x6767_6d6cu32, 0x6767_6d66, 0x6767_6a74, 0x6767_6c61, 0x4655_4747, 0x4747_5546, 0]
+    {
         agreed.on(&magic.to_le_bytes(), 3);
         agreed.on(&magic.to_be_bytes(), 3);
     }
-    for _ in 0..headers {
-        let made = header(&mut random);
-        let cap = [3, 0, 1, 100][random.below(4) as usize];
-        agreed.on(&made.bytes, cap);
-        for end in 0..made.bytes.len() {
-            agreed.on(&made.bytes[..end], cap);
-        }
-        for bytes in damaged(&made, &mut random) {
-            agreed.on(&bytes, cap);
-        }
+}
+
+/// A header, its prefixes of every `step`th length, and damaged copies of it.
+fn on_copies(agreed: &mut Agreed, made: &Made, cap: u64, step: usize, random: &mut Random) {
+    agreed.on(&made.bytes, cap);
+    for end in (0..made.bytes.len()).step_by(step) {
+        agreed.on(&made.bytes[..end], cap);
     }
-    for _ in 0..headers / 25 {
-        let made = long_header(&mut random);
-        agreed.on(&made.bytes, 3);
-        for end in (0..made.bytes.len()).step_by(7) {
-            agreed.on(&made.bytes[..end], 3);
-        }
-        for bytes in damaged(&made, &mut random) {
-            agreed.on(&bytes, 3);
-        }
+    for bytes in damaged(made, random) {
+        agreed.on(&bytes, cap);
     }
-    println!("The readers");
-    agreed.tell();
-    agreed.asked
 }
 
 /// Holds the questions against each other, also on headers that are made for them. Those have a
@@ -102,20 +108,20 @@ fn compare_questions(headers: u64, asked: Asked) {
         }
     }
     println!("The readers, on headers that are made for the questions");
-    agreed.tell();
+    agreed.print();
     println!("The questions, on all of these inputs");
-    agreed.asked.tell();
+    agreed.asked.print();
 }
 
 fn compare_writers(sheets: u64, scratch: &str) {
     let mut random = Random::new(0x0DDB_1A5E_5BAD_5EED);
     let mut agreed = writers::Agreed::default();
-    for told in writers::Told::smallest() {
-        agreed.on(&told, scratch);
+    for contents in writers::Contents::smallest() {
+        agreed.on(&contents, scratch);
     }
     for _ in 0..sheets {
-        agreed.on(&writers::Told::new(&mut random), scratch);
+        agreed.on(&writers::Contents::new(&mut random), scratch);
     }
     println!("The writers");
-    agreed.tell();
+    agreed.print();
 }

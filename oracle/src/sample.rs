@@ -12,7 +12,7 @@ const ROWS: u64 = 64;
 /// The longest input.
 const LONGEST: usize = 260;
 
-/// A stored answer: words of eight bytes and texts behind a length of four, the little end first.
+/// A stored answer: words of eight bytes and texts behind a length of four, little-endian.
 #[derive(Default)]
 struct Stored(Vec<u8>);
 
@@ -30,8 +30,8 @@ impl Stored {
         self.0.extend_from_slice(text);
     }
 
-    /// A value: its form, and what it is. A float comes in both widths, since the original does not
-    /// tell which one it read.
+    /// A value: its form, and what it is. A float comes in both widths, because the original does
+    /// not say which one it read.
     fn value(&mut self, value: &Value) {
         match value {
             Value::Null => self.word(0),
@@ -68,7 +68,7 @@ impl Stored {
         self.word(tensor.size);
     }
 
-    /// All that the original tells of a header. It keeps its byte order to itself: that is its
+    /// All that the original says of a header. It keeps its byte order to itself: that is its
     /// magic's.
     fn model(&mut self, model: &GGUFModel, big: bool) {
         self.word(0);
@@ -92,9 +92,12 @@ impl Stored {
 fn answer(bytes: &[u8], path: &str) -> Option<(u64, Stored)> {
     std::fs::write(path, bytes).expect("the input's file");
     let big = bytes.get(..4) == Some(&FILE_MAGIC_GGUF_BE.to_le_bytes()[..]);
-    let told = std::panic::catch_unwind(|| get_gguf_container(path).and_then(|mut container| container.decode())).ok()?;
+    let answer = std::panic::catch_unwind(|| {
+        get_gguf_container(path).and_then(|mut container| container.decode())
+    })
+    .ok()?;
     let mut stored = Stored::default();
-    match told {
+    match answer {
         Ok(model) => stored.model(&model, big),
         Err(error) => stored.word(class(&error.to_string())),
     }
@@ -108,7 +111,11 @@ fn counts_fit(bytes: &[u8]) -> bool {
     let number = |place: usize, width: usize| -> u64 {
         let field = bytes.get(place..place + width).unwrap_or(&[]);
         let digit = |value: u64, byte: &u8| value << 8 | u64::from(*byte);
-        if big { field.iter().fold(0, digit) } else { field.iter().rev().fold(0, digit) }
+        if big {
+            field.iter().fold(0, digit)
+        } else {
+            field.iter().rev().fold(0, digit)
+        }
     };
     let size = if number(4, 4) == 1 { 4 } else { 8 };
     number(8, size) <= ROWS && number(8 + size, size) <= ROWS
@@ -151,7 +158,9 @@ impl Sample {
     }
 
     fn enough(&self) -> bool {
-        [0, 1, 4, 7, 8, 9, 10, 11, 13, 14, 15].iter().all(|class| self.taken.get(class).copied().unwrap_or(0) >= wanted(*class))
+        [0, 1, 4, 7, 8, 9, 10, 11, 13, 14, 15]
+            .iter()
+            .all(|class| self.taken.get(class).copied().unwrap_or(0) >= wanted(*class))
     }
 }
 
@@ -159,8 +168,21 @@ impl Sample {
 /// answer. `scratch` is a file for the inputs.
 pub fn write(file: &str, scratch: &str) {
     let mut random = Random::new(0x5EED_0F5A_3B1E_0001);
-    let mut sample = Sample { path: scratch.into(), cases: Stored::default(), seen: BTreeSet::new(), taken: BTreeMap::new() };
-    for magic in [FILE_MAGIC_GGML, FILE_MAGIC_GGMF, FILE_MAGIC_GGJT, FILE_MAGIC_GGLA, FILE_MAGIC_GGUF_LE, FILE_MAGIC_GGUF_BE, 0] {
+    let mut sample = Sample {
+        path: scratch.into(),
+        cases: Stored::default(),
+        seen: BTreeSet::new(),
+        taken: BTreeMap::new(),
+    };
+    for magic in [
+        FILE_MAGIC_GGML,
+        FILE_MAGIC_GGMF,
+        FILE_MAGIC_GGJT,
+        FILE_MAGIC_GGLA,
+        FILE_MAGIC_GGUF_LE,
+        FILE_MAGIC_GGUF_BE,
+        0,
+    ] {
         for end in 0..=4 {
             sample.offer(&magic.to_le_bytes()[..end]);
             sample.offer(&magic.to_be_bytes()[..end]);

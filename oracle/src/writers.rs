@@ -3,18 +3,29 @@
 use crate::inputs::{Random, WIDTHS};
 use crate::writer::{calculate_tensor_size, GGUFWriter, MetadataValue, TensorInfo};
 use std::collections::BTreeMap;
-
-#[link(name = "strutpebble", kind = "static")]
-extern "C" {
-    fn sp_write(
-        sheet: *const u8, sheet_len: usize, version: u32, big: u32, alignment: u64, out: *mut u8, out_len: usize, answer: *mut [u64; 8],
-    ) -> u64;
-}
+use strutpebble::{write_header, ByteOrder, Place, Sheet, Type, Value};
 
 /// The bytes of output that this project's writer is lent, and the most that the original is let
 /// write after a header.
 const ROOM: usize = 1 << 17;
 const MOST_DATA: u128 = 1 << 16;
+
+/// The types of values, by their numbers.
+const TYPES: [Type; 13] = [
+    Type::U8,
+    Type::I8,
+    Type::U16,
+    Type::I16,
+    Type::U32,
+    Type::I32,
+    Type::F32,
+    Type::Bool,
+    Type::String,
+    Type::Array,
+    Type::U64,
+    Type::I64,
+    Type::F64,
+];
 
 /// An item: a scalar's bits, or a text.
 enum Item {
@@ -28,8 +39,8 @@ enum Said {
     Array(u8, Vec<Item>),
 }
 
-/// What both writers are told.
-pub struct Told {
+/// What both writers are to write.
+pub struct Contents {
     version: u32,
     alignment: u64,
     entries: BTreeMap<String, Said>,
@@ -55,6 +66,24 @@ impl Item {
         }
     }
 
+    /// As the crate takes it.
+    fn value(&self, kind: u8) -> Value<'_> {
+        match (kind, self) {
+            (_, Item::Text(text)) => Value::String(text.as_bytes()),
+            (0, Item::Scalar(bits)) => Value::U8(*bits as u8),
+            (1, Item::Scalar(bits)) => Value::I8(*bits as i8),
+            (2, Item::Scalar(bits)) => Value::U16(*bits as u16),
+            (3, Item::Scalar(bits)) => Value::I16(*bits as i16),
+            (4, Item::Scalar(bits)) => Value::U32(*bits as u32),
+            (5, Item::Scalar(bits)) => Value::I32(*bits as i32),
+            (6, Item::Scalar(bits)) => Value::F32(f32::from_bits(*bits as u32)),
+            (7, Item::Scalar(bits)) => Value::Bool(*bits != 0),
+            (10, Item::Scalar(bits)) => Value::U64(*bits),
+            (11, Item::Scalar(bits)) => Value::I64(*bits as i64),
+            (_, Item::Scalar(bits)) => Value::F64(f64::from_bits(*bits)),
+        }
+    }
+
     /// As the original takes it.
     fn original(&self, kind: u8) -> MetadataValue {
         match (kind, self) {
@@ -76,7 +105,18 @@ impl Item {
 
 fn text(random: &mut Random) -> String {
     const TEXTS: [&str; 12] = [
-        "general.alignmenT", "general.alignment2", "general.alignmen", "general.architecture", "tokenizer.x", "a", "b", "z", "", "ключ", "名前", "\u{10FFFF}",
+        "general.alignmenT",
+        "general.alignment2",
+        "general.alignmen",
+        "general.architecture",
+        "tokenizer.x",
+        "a",
+        "b",
+        "z",
+        "",
+        "ключ",
+        "名前",
+        "\u{10FFFF}",
     ];
     if random.below(4) < 3 {
         TEXTS[random.below(12) as usize].into()
@@ -104,43 +144,69 @@ fn tensor(random: &mut Random) -> TensorInfo {
     }
     let dimensions = if random.below(60) == 0 { 5 } else { random.below(5) };
     let is_large = random.below(8) == 0;
-    let length = |random: &mut Random| if is_large && random.below(2) == 0 { LARGE[random.below(7) as usize] } else { random.below(7) };
-    let kind = if random.below(30) == 0 { random.below(45) } else { [0, 1, 2, 3, 6, 7, 8, 9, 10, 14, 20, 24, 27, 30, 34, 35, 39, 12][random.below(18) as usize] };
-    TensorInfo { name: text(random), shape: (0..dimensions).map(|_| length(random)).collect(), dtype: kind as u32 }
+    let length = |random: &mut Random| {
+        if is_large && random.below(2) == 0 {
+            LARGE[random.below(7) as usize]
+        } else {
+            random.below(7)
+        }
+    };
+    let kind = if random.below(30) == 0 {
+        random.below(45)
+    } else {
+        [0, 1, 2, 3, 6, 7, 8, 9, 10, 14, 20, 24, 27, 30, 34, 35, 39, 12][random.below(18) as usize]
+    };
+    TensorInfo {
+        name: text(random),
+        shape: (0..dimensions).map(|_| length(random)).collect(),
+        dtype: kind as u32,
+    }
 }
 
-impl Told {
-    pub fn new(random: &mut Random) -> Told {
-        let version = if random.below(40) == 0 { [0, 4][random.below(2) as usize] } else { 1 + random.below(3) as u32 };
+impl Contents {
+    pub fn new(random: &mut Random) -> Contents {
+        let version = if random.below(40) == 0 {
+            [0, 4][random.below(2) as usize]
+        } else {
+            1 + random.below(3) as u32
+        };
         let alignment = match random.below(30) {
             0 => [0, 4, 12, 1 << 32, (1 << 32) + 4][random.below(5) as usize],
             1..=9 => [8, 16, 24, 40, 64, 128, 4096, 1 << 16][random.below(8) as usize],
             _ => 32,
         };
-        let mut entries: BTreeMap<String, Said> = (0..random.below(6)).map(|_| (text(random), said(random))).collect();
+        let mut entries: BTreeMap<String, Said> =
+            (0..random.below(6)).map(|_| (text(random), said(random))).collect();
         // At times the sheet says an alignment itself, mostly the right one; never where the
         // writer's is too large for the original's own zeros.
         if random.below(8) == 0 && alignment < 1 << 32 {
-            let own = if random.below(4) == 0 { said(random) } else { Said::One([4, 10][random.below(2) as usize], Item::Scalar(alignment)) };
+            let own = if random.below(4) == 0 {
+                said(random)
+            } else {
+                Said::One([4, 10][random.below(2) as usize], Item::Scalar(alignment))
+            };
             entries.insert("general.alignment".into(), own);
         }
         let tensors = (0..random.below(4)).map(|_| tensor(random)).collect();
-        Told { version, alignment, entries, tensors }
+        Contents { version, alignment, entries, tensors }
     }
 
     /// The smallest sheets on which the two differ by intent: an empty array of i8, another
     /// alignment, five dimensions.
-    pub fn smallest() -> [Told; 3] {
-        let told = |entries, tensors| Told { version: 3, alignment: 32, entries, tensors };
+    pub fn smallest() -> [Contents; 3] {
+        let contents = |entries, tensors| Contents { version: 3, alignment: 32, entries, tensors };
         let aligned = Said::One(4, Item::Scalar(64));
         [
-            told([(String::new(), Said::Array(1, vec![]))].into(), vec![]),
-            told([("general.alignment".into(), aligned)].into(), vec![]),
-            told([].into(), vec![TensorInfo { name: String::new(), shape: vec![1; 5], dtype: 0 }]),
+            contents([(String::new(), Said::Array(1, vec![]))].into(), vec![]),
+            contents([("general.alignment".into(), aligned)].into(), vec![]),
+            contents(
+                [].into(),
+                vec![TensorInfo { name: String::new(), shape: vec![1; 5], dtype: 0 }],
+            ),
         ]
     }
 
-    /// The sheet. With `as_u8`, an array of no items is told as one of u8.
+    /// The sheet. With `as_u8`, an array of no items is given as one of u8.
     fn sheet(&self, as_u8: bool) -> Vec<u8> {
         let length = |out: &mut Vec<u8>, n: usize| out.extend((n as u32).to_be_bytes());
         let mut sheet = vec![1];
@@ -180,20 +246,40 @@ impl Told {
         sheet
     }
 
+    /// The same sheet, made by the crate.
+    fn built(&self) -> Sheet {
+        let sheet = self.entries.iter().fold(Sheet::new(), |sheet, (key, said)| match said {
+            Said::One(kind, item) => sheet.entry(key, item.value(*kind)),
+            Said::Array(kind, items) => {
+                let items = items.iter().map(|item| item.value(*kind));
+                sheet.array(key, TYPES[*kind as usize], items)
+            }
+        });
+        let tensors = self.tensors.iter();
+        tensors.fold(sheet, |sheet, tensor| sheet.tensor(&tensor.name, tensor.dtype, &tensor.shape))
+    }
+
     /// The bytes of the data area, where every tensor has a size: the original writes as many
     /// zeros.
     fn data(&self) -> Option<u128> {
         let unit = u128::from(self.alignment.max(1));
-        self.tensors.iter().try_fold(0, |end: u128, tensor| Some((end + u128::from(calculate_tensor_size(tensor).ok()?)).div_ceil(unit) * unit))
+        self.tensors.iter().try_fold(0, |end: u128, tensor| {
+            Some((end + u128::from(calculate_tensor_size(tensor).ok()?)).div_ceil(unit) * unit)
+        })
     }
 
     /// What the original wrote up to the start of the data, or the refusal that its error stands
     /// for.
     fn theirs(&self, path: &str) -> Result<Vec<u8>, u64> {
-        let mut writer = GGUFWriter::new(path, self.version as i32).map_err(class)?.with_alignment(self.alignment);
+        let mut writer = GGUFWriter::new(path, self.version as i32)
+            .map_err(class)?
+            .with_alignment(self.alignment);
         for (key, said) in &self.entries {
             match said {
-                Said::Array(kind, items) => writer.add_metadata_array(key, items.iter().map(|item| item.original(*kind)).collect()),
+                Said::Array(kind, items) => writer.add_metadata_array(
+                    key,
+                    items.iter().map(|item| item.original(*kind)).collect(),
+                ),
                 Said::One(kind, item) => match item.original(*kind) {
                     MetadataValue::String(text) => writer.add_metadata(key, &text),
                     MetadataValue::Uint32(n) => writer.add_metadata_u32(key, n),
@@ -213,18 +299,23 @@ impl Told {
     }
 
     /// What this project wrote up to the start of the data, or its refusal. What it must not touch
-    /// is looked at.
+    /// is looked at, and that a refusal's place is one of the sheet or of its tensors.
     fn ours(&self, sheet: &[u8]) -> Result<Vec<u8>, u64> {
         let mut out = vec![7; ROOM];
-        let mut answer = [0; 8];
-        // SAFETY: each pointer comes with the count of what it points to.
-        let number = unsafe {
-            sp_write(sheet.as_ptr(), sheet.len(), self.version, 0, self.alignment, out.as_mut_ptr(), out.len(), &mut answer)
-        };
-        let end = if number == 0 { answer[1] as usize } else { 0 };
-        assert!(out[end..].iter().all(|byte| *byte == 7), "written where nothing is to be written: {sheet:?}");
+        let little = ByteOrder::Little;
+        let answer = write_header(sheet, self.version, little, self.alignment, &mut out);
+        let end = answer.map_or(0, |written| written.data_start as usize);
+        assert!(out[end..].iter().all(|byte| *byte == 7), "bytes after the end: {sheet:?}");
         out.truncate(end);
-        if number == 0 { Ok(out) } else { Err(number) }
+        let Err(refusal) = answer else { return Ok(out) };
+        let inside = match (refusal.number(), refusal.place()) {
+            (31, Place::Sheet(byte)) => byte <= sheet.len() as u64,
+            (13..=15 | 35 | 36, Place::Tensor(index)) => index < self.tensors.len() as u64,
+            (30 | 32..=34 | 37 | 38, place) => place == Place::Nowhere,
+            _ => false,
+        };
+        assert!(inside, "refused at {}: {sheet:?}", refusal.place());
+        Err(refusal.number())
     }
 
     fn has_five_dimensions(&self) -> bool {
@@ -232,7 +323,9 @@ impl Told {
     }
 
     fn has_typed_empty_array(&self) -> bool {
-        self.entries.values().any(|said| matches!(said, Said::Array(kind, items) if *kind != 0 && items.is_empty()))
+        self.entries
+            .values()
+            .any(|said| matches!(said, Said::Array(kind, items) if *kind != 0 && items.is_empty()))
     }
 }
 
@@ -263,15 +356,17 @@ pub struct Agreed {
 
 impl Agreed {
     /// Gives one sheet to both. Panics where they differ otherwise than by intent.
-    pub fn on(&mut self, told: &Told, path: &str) {
-        let is_refused = told.data().is_none_or(|data| data > u128::from(u64::MAX));
-        if !is_refused && told.data().is_some_and(|data| data > MOST_DATA) {
-            return self.intended("data above 64 KiB, which the original would write: not compared");
+    pub fn on(&mut self, contents: &Contents, path: &str) {
+        let is_refused = contents.data().is_none_or(|data| data > u128::from(u64::MAX));
+        if !is_refused && contents.data().is_some_and(|data| data > MOST_DATA) {
+            return self
+                .intended("data above 64 KiB, which the original would write: not compared");
         }
-        let sheet = told.sheet(false);
-        let ours = told.ours(&sheet);
-        let theirs = told.theirs(path);
-        if told.has_five_dimensions() && (1..=3).contains(&told.version) {
+        let sheet = contents.sheet(false);
+        assert_eq!(contents.built().bytes().as_ref(), Ok(&sheet), "the crate's sheet");
+        let ours = contents.ours(&sheet);
+        let theirs = contents.theirs(path);
+        if contents.has_five_dimensions() && (1..=3).contains(&contents.version) {
             assert_eq!(ours, Err(31), "{sheet:?}");
             return self.intended("five dimensions: here refusal 31");
         }
@@ -279,10 +374,13 @@ impl Agreed {
             assert!(matches!(theirs, Ok(_) | Err(13..=14 | 35..=36)), "{sheet:?}");
             return self.intended("another alignment in the sheet: here refusal 34");
         }
-        if told.has_typed_empty_array() && theirs.is_ok() {
+        if contents.has_typed_empty_array() && theirs.is_ok() {
             assert!(ours.is_ok() && ours != theirs, "{sheet:?}");
-            assert_eq!(told.ours(&told.sheet(true)), theirs, "{sheet:?}");
-            return self.intended("an empty array of a type other than u8: the original writes item type 0, and nothing else differs");
+            assert_eq!(contents.ours(&contents.sheet(true)), theirs, "{sheet:?}");
+            return self.intended(
+                "an empty array of a type other than u8: \
+                 the original writes item type 0, and nothing else differs",
+            );
         }
         assert_eq!(ours, theirs, "{sheet:?}");
         *self.by_number.entry(ours.err().unwrap_or(0)).or_default() += 1;
@@ -292,9 +390,17 @@ impl Agreed {
         *self.by_intent.entry(what).or_default() += 1;
     }
 
-    pub fn tell(&self) {
+    pub fn print(&self) {
         for (number, count) in &self.by_number {
-            println!("{:>9}  {}", count, if *number == 0 { "written, same bytes".into() } else { format!("refused {number}") });
+            println!(
+                "{:>9}  {}",
+                count,
+                if *number == 0 {
+                    "written, same bytes".into()
+                } else {
+                    format!("refused {number}")
+                }
+            );
         }
         println!("{:>9}  sheets compared, no difference", self.by_number.values().sum::<u64>());
         for (what, count) in &self.by_intent {

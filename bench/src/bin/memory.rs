@@ -38,7 +38,12 @@ struct Attributes([u64; 7]);
 extern "C" {
     fn pthread_attr_init(attributes: *mut Attributes) -> i32;
     fn pthread_attr_setstack(attributes: *mut Attributes, lowest: *mut c_void, size: usize) -> i32;
-    fn pthread_create(thread: *mut u64, attributes: *const Attributes, run: extern "C" fn(*mut c_void) -> *mut c_void, job: *mut c_void) -> i32;
+    fn pthread_create(
+        thread: *mut u64,
+        attributes: *const Attributes,
+        run: extern "C" fn(*mut c_void) -> *mut c_void,
+        job: *mut c_void,
+    ) -> i32;
     fn pthread_join(thread: u64, answer: *mut *mut c_void) -> i32;
 }
 
@@ -71,7 +76,7 @@ fn depth(run: &mut dyn FnMut()) -> usize {
     STACK - 8 * stack.iter().take_while(|word| **word == UNTOUCHED).count()
 }
 
-fn told(run: &mut dyn FnMut()) -> String {
+fn measured(run: &mut dyn FnMut()) -> String {
     let base = HELD.load(Relaxed);
     COUNT.store(0, Relaxed);
     PEAK.store(base, Relaxed);
@@ -82,10 +87,11 @@ fn told(run: &mut dyn FnMut()) -> String {
 }
 
 fn main() {
-    let bytes: &'static [u8] = Plan::named(&std::env::args().nth(1).expect("an input")).bytes().leak();
+    let bytes: &'static [u8] =
+        Plan::named(&std::env::args().nth(1).expect("an input")).bytes().leak();
     let mut tables = Tables::new();
-    let ours = told(&mut || {
-        black_box(tables.read(black_box(bytes)));
+    let ours = measured(&mut || {
+        let _ = black_box(tables.read(black_box(bytes)));
     });
-    println!("{ours} {}", told(&mut || drop(black_box(original(black_box(bytes))))));
+    println!("{ours} {}", measured(&mut || drop(black_box(original(black_box(bytes))))));
 }
