@@ -5,8 +5,8 @@ use core::fmt;
 
 /// Why the reader, the range check or the writer refuses.
 ///
-/// It displays as a short sentence, and [`number`](Reason::number) is the number that the C header
-/// and the project's documents give it.
+/// It displays as a short sentence, and [`number`](Reason::number) is its number in the C header and
+/// in the project's docs/REFUSALS.md, which says when it is given and what to do about it.
 #[derive(Clone, Copy, Debug, PartialEq, Eq, Hash)]
 #[non_exhaustive]
 pub enum Reason {
