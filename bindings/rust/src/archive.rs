@@ -3,6 +3,8 @@
 //! A slice is passed as its pointer and its count. Rust's pointer of an empty slice is not null,
 //! which the archive asks for.
 
+use alloc::vec::Vec;
+
 /// The words of an entry's row; the constants `SP_ENTRY_*` of the C header name them.
 pub type EntryRow = [u64; 7];
 
@@ -108,6 +110,49 @@ pub fn read(
     (number, words)
 }
 
+/// Reads into new tables of so many rows, and gives them with as many rows as the header has. On a
+/// refusal they have none.
+///
+/// Their memory is not cleared first: the archive writes every word of the rows that are given out.
+pub fn read_new(
+    prefix: &[u8],
+    versions: u32,
+    kinds: u32,
+    cap: u64,
+    (entry_rows, tensor_rows): (usize, usize),
+) -> (Answer, Vec<EntryRow>, Vec<TensorRow>) {
+    let mut words = [0; 8];
+    let mut entries: Vec<EntryRow> = Vec::with_capacity(entry_rows);
+    let mut tensors: Vec<TensorRow> = Vec::with_capacity(tensor_rows);
+    // SAFETY: the prefix's pointer goes with its length, and it is only read. The tables are this
+    // function's own, each with memory for as many rows as are named; the archive writes to them
+    // and never reads from them. The words are this function's own.
+    let number = unsafe {
+        sp_read(
+            prefix.as_ptr(),
+            prefix.len(),
+            versions,
+            kinds,
+            cap,
+            entries.as_mut_ptr(),
+            entry_rows,
+            tensors.as_mut_ptr(),
+            tensor_rows,
+            &mut words,
+        )
+    };
+    if number == 0 {
+        // SAFETY: the header was accepted. So the archive wrote every word of a row for each of its
+        // words[2] entries and words[3] tensors, of which there are no more than rows: otherwise
+        // the header is refused.
+        unsafe {
+            entries.set_len((words[2] as usize).min(entry_rows));
+            tensors.set_len((words[3] as usize).min(tensor_rows));
+        }
+    }
+    ((number, words), entries, tensors)
+}
+
 pub fn find(prefix: &[u8], key: &[u8]) -> Answer {
     let mut words = [0; 8];
     // SAFETY: each pointer goes with its own slice's length, and both slices are only read; the
@@ -198,6 +243,20 @@ mod tests {
         assert_eq!(tensors, [a, b, [9; 10]]);
         assert_eq!(check_ranges(&tensors[..2], 96, 134), answer(0, []));
         assert_eq!(check_ranges(&tensors[..2], 96, 133), answer(20, [1]));
+    }
+
+    #[test]
+    fn new_tables() {
+        let (answer, entries, tensors) = read_new(A_AND_B, 3, 39, 3, (5, 2));
+        assert_eq!(answer, measure(A_AND_B, 3, 39));
+        let mut lent = [[9; 10]; 2];
+        read(A_AND_B, 3, 39, 3, &mut [], &mut lent);
+        assert_eq!((entries.len(), &tensors[..]), (0, &lent[..]));
+        // Rows that the header does not need stay out, and a refusal gives none.
+        let (_, _, tensors) = read_new(A_AND_B, 3, 39, 3, (0, 9));
+        assert_eq!(tensors, lent);
+        let (refused, entries, tensors) = read_new(A_AND_B, 3, 39, 3, (9, 1));
+        assert_eq!((refused.0, entries.len(), tensors.len()), (6, 0, 0));
     }
 
     #[test]

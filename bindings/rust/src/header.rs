@@ -6,7 +6,6 @@ use crate::front::{ByteOrder, Claim, Dialect};
 use crate::records::{Entries, Entry, Tensor, Tensors};
 use crate::refusal::Refusal;
 use crate::value::Value;
-use alloc::vec;
 use alloc::vec::Vec;
 use core::ops::Range;
 
@@ -137,10 +136,10 @@ impl Options {
                 Claim { entries: measured.entries, tensors: measured.tensors }
             }
         };
-        let mut entries = vec![[0; 7]; claim.entries];
-        let mut tensors = vec![[0; 10]; claim.tensors];
-        let summary = self.read_rows(prefix, &mut entries, &mut tensors)?;
-        Ok(Header { prefix, summary, entries, tensors })
+        let rows = (claim.entries, claim.tensors);
+        let (answer, entries, tensors) =
+            archive::read_new(prefix, self.versions, self.kinds, self.cap, rows);
+        Ok(Header { prefix, summary: Summary::of(answer)?, entries, tensors })
     }
 }
 

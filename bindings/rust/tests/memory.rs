@@ -1,27 +1,36 @@
 //! What is asked of the allocator: nothing for counts that are made up, and for a header that is
-//! read, its rows and no more.
+//! read, its rows and no more. And whatever stood in that memory, the rows are written whole.
 
 mod made;
 
 use made::{made, shortest};
 use std::alloc::{GlobalAlloc, Layout, System};
 use std::cell::Cell;
-use strutpebble::{file_type, find, find_string, measure, model_family, read};
+use strutpebble::{file_type, find, find_string, measure, model_family, read, Options, Value};
 
 thread_local! {
     /// How many bytes this thread asked for. Each test has its own thread.
     static ASKED: Cell<usize> = const { Cell::new(0) };
 }
 
+/// What fresh memory is filled with, so that nothing can be taken for zeros.
+const STALE: u8 = 0xa5;
+
 /// The system's allocator, with a count of what is asked of it.
 struct Counted;
 
-// SAFETY: every call is handed on to the system's allocator as it is.
+// SAFETY: every call is handed on to the system's allocator, and only new memory is filled.
 unsafe impl GlobalAlloc for Counted {
     unsafe fn alloc(&self, layout: Layout) -> *mut u8 {
         ASKED.with(|asked| asked.set(asked.get() + layout.size()));
-        // SAFETY: the caller keeps to what `alloc` asks.
-        unsafe { System.alloc(layout) }
+        // SAFETY: the caller keeps to what `alloc` asks; memory that is there has that size.
+        unsafe {
+            let at = System.alloc(layout);
+            if !at.is_null() {
+                at.write_bytes(STALE, layout.size());
+            }
+            at
+        }
     }
 
     unsafe fn dealloc(&self, at: *mut u8, layout: Layout) {
@@ -59,6 +68,30 @@ fn rows_and_nothing_else() {
             assert!(10 * rows < tenths * file.len());
         }
     }
+}
+
+#[test]
+fn rows_are_written_whole() {
+    for (version, big) in [(1, false), (2, true), (3, false), (3, true)] {
+        let mut file = made(version, big, 3, 5);
+        file.key("number", 4).number(4, 7);
+        file.key("minus", 1).number(1, 0xff);
+        file.key("text", 8).text("strut");
+        file.array("none", 9, 0);
+        file.array("tokenizer.tokens", 8, 4).text("a").text("b").text("").text("c");
+        file.tensor("a", &[], 0, 0).tensor("b", &[3], 1, 32).tensor("c", &[1, 2, 3, 4], 0, 64);
+        let mut entries = vec![[0; 7]; 5];
+        let mut tensors = vec![[0; 10]; 3];
+        Options::new().read_rows(&file.bytes, &mut entries, &mut tensors).unwrap();
+        // The header's form in words has its rows.
+        let words = format!("{:?}", read(&file.bytes).unwrap());
+        assert!(words.ends_with(&format!("entries: {entries:?}, tensors: {tensors:?} }}")));
+    }
+    // More entries than the reader keeps the rows of while it tests.
+    let file = shortest(3, false, 100, 100);
+    let header = read(&file).unwrap();
+    assert!(header.entries().all(|entry| entry.value() == Value::U8(5)));
+    assert!(header.tensors().all(|tensor| tensor.shape() == [1; 4] && tensor.size() == 4));
 }
 
 #[test]
