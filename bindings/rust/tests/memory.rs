@@ -6,7 +6,9 @@ mod made;
 use made::{made, shortest};
 use std::alloc::{GlobalAlloc, Layout, System};
 use std::cell::Cell;
-use strutpebble::{file_type, find, find_string, measure, model_family, read, Options, Value};
+use strutpebble::{
+    file_type, find, find_string, measure, model_family, read, Options, Reason, Value,
+};
 
 thread_local! {
     /// How many bytes this thread asked for. Each test has its own thread.
@@ -68,6 +70,17 @@ fn rows_and_nothing_else() {
             assert!(10 * rows < tenths * file.len());
         }
     }
+}
+
+#[test]
+fn the_header_is_not_measured_first() {
+    // A header that is refused at its last tensor, the kind of which is 12 bytes before its end:
+    // measured first, it would ask for no rows.
+    let mut file = shortest(3, false, 10, 10);
+    let kind = file.len() - 12;
+    file[kind] = 40;
+    assert_eq!(read(&file).unwrap_err().reason(), Reason::UnknownKind);
+    assert_eq!(asked(|| read(&file)), 10 * (56 + 80));
 }
 
 #[test]

@@ -238,6 +238,17 @@ fn read_back() {
 }
 
 #[test]
+fn an_array_that_was_cut_is_written_whole() {
+    let items = ["a", "", "bc", "d", "e"].map(|item| Value::String(item.as_bytes()));
+    let sheet = Sheet::new().array("tokenizer.ggml.tokens", Type::String, items);
+    let file = sheet.to_vec().unwrap();
+    let header = read(&file).unwrap();
+    let array = header.get("tokenizer.ggml.tokens").unwrap();
+    assert_eq!(array.as_array().unwrap().kept(), 3);
+    assert_eq!(Sheet::new().entry("tokenizer.ggml.tokens", array), sheet);
+}
+
+#[test]
 fn an_entry_replaces_one_of_its_key() {
     let once = Sheet::new().entry("k", Value::U8(2));
     assert_eq!(Sheet::new().entry("k", Value::String(b"one")).entry("k", Value::U8(2)), once);
