@@ -1,5 +1,5 @@
--- Four bytes that were read with the little end first, turned round: what they are with the big end
--- first. Assumes nothing.
+-- Four bytes that were read as a little-endian number, turned round: the big-endian number of the
+-- same bytes. Assumes nothing.
 use Prim.Native.Nat.{ℕ, zero, suc, _+_, _*_, _/_, _%_, _≤_, _<_}
 use mathlib.Core.Path.{_≡_, sym, ap, _∙_}
 use mathlib.Core.List.{List}

@@ -98,7 +98,7 @@ pub a-byte-less : readerRun full 0 [] ([] ∷ [] ∷ []) (take 89 tensors3) ≡ 
 unfolding run under each header magic version start counts size number here _>>=_ tensor text textLooking shape lengthsOf lengthAt kindAndOffset blockOf
 a-byte-less = refl
 
--- big end first, version 3, no records
+-- big-endian, version 3, no records
 pub big-end : readerRun full 0 [] [] (70 ∷ 85 ∷ 71 ∷ 71 ∷ 0 ∷ 0 ∷ 0 ∷ 3 ∷ 0 ∷ 0 ∷ 0 ∷ 0 ∷ 0 ∷ 0 ∷ 0 ∷ 0 ∷ 0 ∷ 0 ∷ 0 ∷ 0 ∷ 0 ∷ 0 ∷ 0 ∷ 0 ∷ [])
     ≡ accepted (record { head = record { version = 3; big = true; entries = 0; tensors = 0; alignment = 32; end = 24; start = 32 }; entries = []; tensors = [] }) 24
 unfolding run under each header magic version start counts size number here _>>=_

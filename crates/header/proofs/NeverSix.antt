@@ -1,5 +1,5 @@
--- Rows for any count: a reader that has them never refuses for want of rows, since a count that was
--- read is below 2 ^ 64. Assumes nothing.
+-- Rows for any count: a reader that has them never refuses because there are too few, since a count
+-- that was read is below 2 ^ 64. Assumes nothing.
 use Prim.Native.Nat.{ℕ, _^_, _≤_, _<_}
 use mathlib.Core.Path.{_≡_, refl, sym}
 use mathlib.Core.List.{List}

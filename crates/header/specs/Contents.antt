@@ -28,7 +28,7 @@ pub record Contents : Type 0 where
   pub entries : List EntryContent
   pub tensors : List TensorContent
 
--- how many records there are
+-- what stands before the records: the version and byte order, and how many records there are
 abbrev pub startIn : Dialect → Contents → Start
 startIn k c = record { dialect = k; tensors = length (c .tensors); entries = length (c .entries) }
 

@@ -4,7 +4,7 @@ use mathlib.Core.Path.{_≡_}
 use mathlib.Core.List.{List}
 use lib.ListN.{length, take}
 use Rattle.reading.specs.Back.{All}
-use Rattle.rows.specs.Columns.{word, placeIn, lengthIn, typeIn}
+use Rattle.rows.specs.Columns.{placeIn, lengthIn, typeIn, stringPlaceIn, stringLengthIn, firstItemIn}
 use Rattle.values.specs.Spans.{EndsBy, EntryEndsBy}
 use Rattle.tensors.specs.declared.Tensor.{Tensor}
 use Rattle.header.specs.declared.Header.{Header}
@@ -23,8 +23,8 @@ pub record SpansInside (s : List ℕ) (w : FullHeader) : Type 0 where
 -- where it is 9, an array, the first item begins there
 pub record EntryRowEndsBy (e : ℕ) (row : List ℕ) : Type 0 where
   pub key : placeIn row + lengthIn row ≤ e
-  pub text : typeIn row ≡ 8 → word 3 row + word 4 row ≤ e
-  pub items : typeIn row ≡ 9 → word 6 row ≤ e
+  pub text : typeIn row ≡ 8 → stringPlaceIn row + stringLengthIn row ≤ e
+  pub items : typeIn row ≡ 9 → firstItemIn row ≤ e
 
 -- the same of the rows of both tables: as many as the header counts, from the front
 pub record RowsInside (s : List ℕ) (h : Header) (o : Outcome) : Type 0 where

@@ -9,7 +9,7 @@ use borrow.Author.Tests.{lt-ltb}
 use Rattle.reading.specs.Back.{bytesOfAll}
 use Rattle.listing.specs.Text.{furtherText, lengthsText}
 use Rattle.listing.specs.Steps.{firstText, furtherOf, planeText}
-use Rattle.rows.specs.Columns.{word, dimensionsIn, lengthsIn}
+use Rattle.rows.specs.Columns.{dimensionsIn, firstLengthIn, secondLengthIn, thirdLengthIn, fourthLengthIn, lengthsIn}
 
 module _ (p q r t : ℕ) where
   abbrev stated : ℕ → List ℕ
@@ -28,6 +28,6 @@ module _ (p q r t : ℕ) where
       four ∙ ap lengthsText (sym (take-all n (p ∷ q ∷ r ∷ t ∷ []) (omega arith)))
 
 -- the lengths of a row are the first two, and the other two where they are stated
-pub lengths-split : (row : List ℕ) → planeText row ++ furtherOf 2 (dimensionsIn row) (word 6 row) ++ furtherOf 3 (dimensionsIn row) (word 7 row) ≡ lengthsText (lengthsIn row)
+pub lengths-split : (row : List ℕ) → planeText row ++ furtherOf 2 (dimensionsIn row) (thirdLengthIn row) ++ furtherOf 3 (dimensionsIn row) (fourthLengthIn row) ≡ lengthsText (lengthsIn row)
 unfolding planeText
-lengths-split row = split (word 4 row) (word 5 row) (word 6 row) (word 7 row) (dimensionsIn row)
+lengths-split row = split (firstLengthIn row) (secondLengthIn row) (thirdLengthIn row) (fourthLengthIn row) (dimensionsIn row)

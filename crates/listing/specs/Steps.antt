@@ -5,7 +5,7 @@ use lib.Dec.{ltb}
 use Rattle.reading.specs.Choice.{if_then_else_}
 use Rattle.text_out.specs.Words.{labelled}
 use Rattle.listing.specs.Text.{space}
-use Rattle.rows.specs.Columns.{word, dimensionsIn}
+use Rattle.rows.specs.Columns.{dimensionsIn, firstLengthIn, secondLengthIn}
 
 -- the first of so many lengths, and " -" where there are none
 abbrev pub firstText : ℕ → ℕ → List ℕ
@@ -17,4 +17,4 @@ furtherOf index count n = if ltb index count then labelled (120 ∷ []) n else [
 
 -- the first two lengths of a tensor row
 unfoldable pub planeText : List ℕ → List ℕ
-planeText row = firstText (dimensionsIn row) (word 4 row) ++ furtherOf 1 (dimensionsIn row) (word 5 row)
+planeText row = firstText (dimensionsIn row) (firstLengthIn row) ++ furtherOf 1 (dimensionsIn row) (secondLengthIn row)

@@ -1,4 +1,5 @@
--- No lookup is refused for want of rows, since it reads with rows for any count. Assumes nothing.
+-- No lookup is refused because there are too few rows: it reads with rows for any count. Assumes
+-- nothing.
 use Prim.Native.Nat.{ℕ}
 use mathlib.Core.Path.{_≡_, sym}
 use mathlib.Core.List.{List}

@@ -58,7 +58,7 @@ entriesWith adding a es = if adding then inserted a (map entryIn es) else map en
 abbrev pub entriesOf : ℕ → List SheetEntry → List EntryContent
 entriesOf a es = entriesWith (adds a (ownAlignment es)) a es
 
--- a tensor as it is laid, and as it is written at an offset
+-- a tensor as it is laid
 abbrev pub pieceOf : SheetTensor → Piece
 pieceOf t = record { lengths = lengths (t .parts .shape); kind = t .parts .kind }
 
@@ -75,11 +75,11 @@ abbrev pub laidFrom : ℕ → Laid → List SheetTensor → List TensorContent
 laidFrom a laid [] = []
 laidFrom a laid (t ∷ ts) = contentAt t (laid .next) ∷ laidFrom a (laidWith a laid t) ts
 
--- the header's sheet, at the alignment a
+-- the header's contents, at the alignment a
 abbrev pub headerContents : ℕ → Records → Contents
 headerContents a c = record { entries = entriesOf a (c .entries); tensors = laidFrom a nothingLaid (c .tensors) }
 
--- where the header ends, and where its data starts
+-- where the header ends
 abbrev pub endOf : Dialect → ℕ → Records → ℕ
 endOf k a c = length (headerBytes k (headerContents a c))
 
@@ -87,9 +87,7 @@ endOf k a c = length (headerBytes k (headerContents a c))
 abbrev pub startOf : Dialect → ℕ → Records → ℕ
 startOf k a c = padded a (endOf k a c)
 
--- What single steps read.
-
--- what a sheet that is well formed says
+-- what a sheet says; one that is not well formed, nothing
 abbrev pub recordsIn : Answer Records → Records
 recordsIn (accepted c e) = c
 recordsIn (refused n p) = record { entries = []; first = 0; tensors = [] }

@@ -6,6 +6,7 @@ use Prim.Native.Nat.{ℕ}
 use mathlib.Core.Path.{_≡_, refl, sym, ap, _∙_}
 use mathlib.Core.List.{List}
 use native.Mathlib.Omega.{arith}
+use Rattle.reading.specs.Reading.{accepted, refused}
 use Rattle.fields.specs.declared.Number.{Number}
 use Rattle.fields.specs.declared.Number.the-variants.{Value as FoundNumber, Refused as NoNumber}
 use Rattle.values.specs.declared.TextRead.{TextRead}
@@ -54,102 +55,106 @@ one-result x y e f = e ∙ sym f
 pub one-output : {l old out out′ : List ℕ} {n m : ℕ} → Wrote l old out n → Wrote l old out′ m → (out ≡ out′) × (n ≡ m)
 one-output x y = (x .bytes ∙ sym (y .bytes), x .count ∙ sym (y .count))
 
+-- what is accepted is no refusal
+apart : {A Z : Type 0} {a : A} {q n p : ℕ} → accepted a q ≡ refused n p → Z
+apart e = let z : _≡_ {A = ℕ} 0 1 = cc in absurd (omega arith)
+
 -- a number
 pub one-number : (x y : Number) → asNumber x ≡ asNumber y → x ≡ y
 one-number (FoundNumber a q) (FoundNumber b r) e = cc
-one-number (FoundNumber a q) (NoNumber m o) e = let z : _≡_ {A = ℕ} 0 1 = cc in absurd (omega arith)
-one-number (NoNumber n p) (FoundNumber b r) e = let z : _≡_ {A = ℕ} 0 1 = cc in absurd (omega arith)
+one-number (FoundNumber a q) (NoNumber m o) e = apart e
+one-number (NoNumber n p) (FoundNumber b r) e = apart (sym e)
 one-number (NoNumber n p) (NoNumber m o) e = cc
 
 -- a text
 pub one-text : (x y : TextRead) → asText x ≡ asText y → x ≡ y
 one-text (FoundText a q) (FoundText b r) e = cc
-one-text (FoundText a q) (NoText m o) e = let z : _≡_ {A = ℕ} 0 1 = cc in absurd (omega arith)
-one-text (NoText n p) (FoundText b r) e = let z : _≡_ {A = ℕ} 0 1 = cc in absurd (omega arith)
+one-text (FoundText a q) (NoText m o) e = apart e
+one-text (NoText n p) (FoundText b r) e = apart (sym e)
 one-text (NoText n p) (NoText m o) e = cc
 
 -- a key
 pub one-key : (x y : KeyRead) → asKey x ≡ asKey y → x ≡ y
 one-key (FoundKey a q) (FoundKey b r) e = cc
-one-key (FoundKey a q) (NoKey m o) e = let z : _≡_ {A = ℕ} 0 1 = cc in absurd (omega arith)
-one-key (NoKey n p) (FoundKey b r) e = let z : _≡_ {A = ℕ} 0 1 = cc in absurd (omega arith)
+one-key (FoundKey a q) (NoKey m o) e = apart e
+one-key (NoKey n p) (FoundKey b r) e = apart (sym e)
 one-key (NoKey n p) (NoKey m o) e = cc
 
 -- something that is passed
 pub one-passed : (x y : Passed) → asPassed x ≡ asPassed y → x ≡ y
 one-passed (FoundPassed h) (FoundPassed i) e = cc
-one-passed (FoundPassed h) (NoPassed m o) e = let z : _≡_ {A = ℕ} 0 1 = cc in absurd (omega arith)
-one-passed (NoPassed n p) (FoundPassed i) e = let z : _≡_ {A = ℕ} 0 1 = cc in absurd (omega arith)
+one-passed (FoundPassed h) (NoPassed m o) e = apart e
+one-passed (NoPassed n p) (FoundPassed i) e = apart (sym e)
 one-passed (NoPassed n p) (NoPassed m o) e = cc
 
 -- an array
 pub one-array : (x y : ArrayRead) → asArray x ≡ asArray y → x ≡ y
 one-array (FoundArray a q) (FoundArray b r) e = cc
-one-array (FoundArray a q) (NoArray m o) e = let z : _≡_ {A = ℕ} 0 1 = cc in absurd (omega arith)
-one-array (NoArray n p) (FoundArray b r) e = let z : _≡_ {A = ℕ} 0 1 = cc in absurd (omega arith)
+one-array (FoundArray a q) (NoArray m o) e = apart e
+one-array (NoArray n p) (FoundArray b r) e = apart (sym e)
 one-array (NoArray n p) (NoArray m o) e = cc
 
 -- a value
 pub one-value : (x y : ValueRead) → asValue x ≡ asValue y → x ≡ y
 one-value (FoundValue a q) (FoundValue b r) e = cc
-one-value (FoundValue a q) (NoValue m o) e = let z : _≡_ {A = ℕ} 0 1 = cc in absurd (omega arith)
-one-value (NoValue n p) (FoundValue b r) e = let z : _≡_ {A = ℕ} 0 1 = cc in absurd (omega arith)
+one-value (FoundValue a q) (NoValue m o) e = apart e
+one-value (NoValue n p) (FoundValue b r) e = apart (sym e)
 one-value (NoValue n p) (NoValue m o) e = cc
 
 -- an entry
 pub one-entry : (x y : EntryRead) → asEntry x ≡ asEntry y → x ≡ y
 one-entry (FoundEntry a q) (FoundEntry b r) e = cc
-one-entry (FoundEntry a q) (NoEntry m o) e = let z : _≡_ {A = ℕ} 0 1 = cc in absurd (omega arith)
-one-entry (NoEntry n p) (FoundEntry b r) e = let z : _≡_ {A = ℕ} 0 1 = cc in absurd (omega arith)
+one-entry (FoundEntry a q) (NoEntry m o) e = apart e
+one-entry (NoEntry n p) (FoundEntry b r) e = apart (sym e)
 one-entry (NoEntry n p) (NoEntry m o) e = cc
 
 -- a shape
 pub one-shape : (x y : ShapeRead) → asShape x ≡ asShape y → x ≡ y
 one-shape (FoundShape a q) (FoundShape b r) e = cc
-one-shape (FoundShape a q) (NoShape m o) e = let z : _≡_ {A = ℕ} 0 1 = cc in absurd (omega arith)
-one-shape (NoShape n p) (FoundShape b r) e = let z : _≡_ {A = ℕ} 0 1 = cc in absurd (omega arith)
+one-shape (FoundShape a q) (NoShape m o) e = apart e
+one-shape (NoShape n p) (FoundShape b r) e = apart (sym e)
 one-shape (NoShape n p) (NoShape m o) e = cc
 
 -- a kind and an offset
 pub one-stored : (x y : KindAndOffsetRead) → asKindAndOffset x ≡ asKindAndOffset y → x ≡ y
 one-stored (FoundStored a q) (FoundStored b r) e = cc
-one-stored (FoundStored a q) (NoStored m o) e = let z : _≡_ {A = ℕ} 0 1 = cc in absurd (omega arith)
-one-stored (NoStored n p) (FoundStored b r) e = let z : _≡_ {A = ℕ} 0 1 = cc in absurd (omega arith)
+one-stored (FoundStored a q) (NoStored m o) e = apart e
+one-stored (NoStored n p) (FoundStored b r) e = apart (sym e)
 one-stored (NoStored n p) (NoStored m o) e = cc
 
 -- a tensor
 pub one-tensor : (x y : TensorRead) → asTensor x ≡ asTensor y → x ≡ y
 one-tensor (FoundTensor a q) (FoundTensor b r) e = cc
-one-tensor (FoundTensor a q) (NoTensor m o) e = let z : _≡_ {A = ℕ} 0 1 = cc in absurd (omega arith)
-one-tensor (NoTensor n p) (FoundTensor b r) e = let z : _≡_ {A = ℕ} 0 1 = cc in absurd (omega arith)
+one-tensor (FoundTensor a q) (NoTensor m o) e = apart e
+one-tensor (NoTensor n p) (FoundTensor b r) e = apart (sym e)
 one-tensor (NoTensor n p) (NoTensor m o) e = cc
 
 -- a byte order
 pub one-magic : (x y : MagicRead) → asMagic x ≡ asMagic y → x ≡ y
 one-magic (FoundMagic a q) (FoundMagic b r) e = cc
-one-magic (FoundMagic a q) (NoMagic m o) e = let z : _≡_ {A = ℕ} 0 1 = cc in absurd (omega arith)
-one-magic (NoMagic n p) (FoundMagic b r) e = let z : _≡_ {A = ℕ} 0 1 = cc in absurd (omega arith)
+one-magic (FoundMagic a q) (NoMagic m o) e = apart e
+one-magic (NoMagic n p) (FoundMagic b r) e = apart (sym e)
 one-magic (NoMagic n p) (NoMagic m o) e = cc
 
 -- a version
 pub one-version : (x y : VersionRead) → asVersion x ≡ asVersion y → x ≡ y
 one-version (FoundVersion a q) (FoundVersion b r) e = cc
-one-version (FoundVersion a q) (NoVersion m o) e = let z : _≡_ {A = ℕ} 0 1 = cc in absurd (omega arith)
-one-version (NoVersion n p) (FoundVersion b r) e = let z : _≡_ {A = ℕ} 0 1 = cc in absurd (omega arith)
+one-version (FoundVersion a q) (NoVersion m o) e = apart e
+one-version (NoVersion n p) (FoundVersion b r) e = apart (sym e)
 one-version (NoVersion n p) (NoVersion m o) e = cc
 
 -- all before the first record
 pub one-start : (x y : StartRead) → asStart x ≡ asStart y → x ≡ y
 one-start (FoundStart a q) (FoundStart b r) e = cc
-one-start (FoundStart a q) (NoStart m o) e = let z : _≡_ {A = ℕ} 0 1 = cc in absurd (omega arith)
-one-start (NoStart n p) (FoundStart b r) e = let z : _≡_ {A = ℕ} 0 1 = cc in absurd (omega arith)
+one-start (FoundStart a q) (NoStart m o) e = apart e
+one-start (NoStart n p) (FoundStart b r) e = apart (sym e)
 one-start (NoStart n p) (NoStart m o) e = cc
 
 -- a header
 pub one-header : (x y : HeaderRead) → asHeader x ≡ asHeader y → x ≡ y
 one-header (FoundHeader h) (FoundHeader i) e = cc
-one-header (FoundHeader h) (NoHeader m o) e = let z : _≡_ {A = ℕ} 0 1 = cc in absurd (omega arith)
-one-header (NoHeader n p) (FoundHeader i) e = let z : _≡_ {A = ℕ} 0 1 = cc in absurd (omega arith)
+one-header (FoundHeader h) (NoHeader m o) e = apart e
+one-header (NoHeader n p) (FoundHeader i) e = apart (sym e)
 one-header (NoHeader n p) (NoHeader m o) e = cc
 
 -- a width, and the width of a scalar

@@ -3,7 +3,7 @@
 use Prim.Native.Nat.{ℕ, zero, suc, _+_, _^_, _≤_, _<_, max}
 use mathlib.Core.Path.{_≡_, refl, subst}
 use mathlib.Core.Bool.{Bool, true, false}
-use mathlib.Core.List.{List, [], _∷_, _++_, map}
+use mathlib.Core.List.{List, [], _∷_, map}
 use native.Mathlib.Omega.{arith}
 use borrow.Author.Tests.{ltb-true, leb-false, eqb-false}
 use lib.Dec.{leb, eqb}
@@ -47,7 +47,8 @@ use Rattle.plan.proofs.Drafts.{entries-count}
 use Rattle.writer.specs.Output.{writtenOf}
 use Rattle.writer.specs.declared.HeaderWritten.the-variants.{Refused as NotWritten}
 use Rattle.promises.specs.Back.{answerFor}
-use Rattle.promises.specs.Refusals.{isOneOf, layoutRefusal, writerRefusal, placesOf, Listed, Given}
+use Rattle.reading.proofs.RefusalLaws.{listed-too}
+use Rattle.promises.specs.Refusals.{layoutRefusal, writerRefusal, placesOf, Listed, Given}
 
 -- what holds of a test's refusal, where the test fails, and of what follows it holds of both
 by-test : {A : Type 0} (P : A → Type 0) (t : Bool) (refusal rest : A) → (t ≡ false → P refusal) → P rest → P (require t refusal rest)
@@ -176,26 +177,9 @@ sheet-over k a s {c} h over =
 
 -- The writer.
 
--- one of a list is one of a longer list
-or-true : (b : Bool) {x : Bool} → x ≡ true → (if b then true else x) ≡ true
-or-true true h = refl
-or-true false h = h
-
-behind : (ms others : List ℕ) (n : ℕ) → isOneOf others n ≡ true → isOneOf (ms ++ others) n ≡ true
-behind [] others n h = h
-behind (m ∷ ms) others n h = or-true (eqb n m) (behind ms others n h)
-
-in-front : (ms others : List ℕ) (n : ℕ) → isOneOf ms n ≡ true → isOneOf (ms ++ others) n ≡ true
-in-front [] others n h = let z : _≡_ {A = ℕ} 0 1 = cc in absurd (omega arith)
-in-front (m ∷ ms) others n h = by (eqb n m) h (in-front ms others n)
-  where
-    by : (b : Bool) → (if b then true else isOneOf ms n) ≡ true → (isOneOf ms n ≡ true → isOneOf (ms ++ others) n ≡ true) → (if b then true else isOneOf (ms ++ others) n) ≡ true
-    by true g rest = refl
-    by false g rest = rest g
-
 -- a refusal of the layout is one of the writer
 laid-number : (n : ℕ) → layoutRefusal n ≡ true → writerRefusal n ≡ true
-laid-number n h = behind (30 ∷ 31 ∷ 32 ∷ 33 ∷ 34 ∷ []) (35 ∷ 13 ∷ 14 ∷ 15 ∷ 36 ∷ 37 ∷ 38 ∷ []) n (in-front (35 ∷ 13 ∷ 14 ∷ 15 ∷ 36 ∷ []) (37 ∷ 38 ∷ []) n h)
+laid-number n h = listed-too n (35 ∷ 13 ∷ 14 ∷ 15 ∷ 36 ∷ []) (30 ∷ 31 ∷ 32 ∷ 33 ∷ 34 ∷ 35 ∷ 13 ∷ 14 ∷ 15 ∷ 36 ∷ 37 ∷ 38 ∷ []) refl h
 
 -- a plan, or a listed refusal, for a sheet of so many bytes and tensors
 abbrev ListedPlan : ℕ → ℕ → Planned → Type 0

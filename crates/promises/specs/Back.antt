@@ -33,7 +33,7 @@ readIn cap es ts bytes = seen (summaryIn bytes) (readerRun full cap es ts bytes)
 abbrev pub contentsFor : ℕ → List ℕ → Contents
 contentsFor a s = headerContents a (recordsIn (sheetOf s))
 
--- its tensors as they are laid, and the offsets that they have in it
+-- its tensors as they are laid
 abbrev pub piecesIn : List ℕ → List Piece
 piecesIn s = map pieceOf (recordsIn (sheetOf s) .tensors)
 

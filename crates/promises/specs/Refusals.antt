@@ -2,28 +2,24 @@
 -- many places each may have, and that each of them is given.
 use Prim.Native.Nat.{ℕ, suc, _-_, _^_, _≤_, _<_}
 use mathlib.Core.Path.{_≡_}
-use mathlib.Core.Bool.{Bool, true, false}
+use mathlib.Core.Bool.{Bool, true}
 use mathlib.Core.List.{List, [], _∷_, _++_}
 use lib.Dec.{eqb}
 use Rattle.reading.specs.Choice.{if_then_else_}
+use Rattle.reading.specs.Refusals.{isOneOf}
 use Rattle.values.specs.Format.{alignmentKey}
 use Rattle.layout.specs.Layout.{refusedAt, layoutOf}
 use Rattle.writer.specs.declared.HeaderWritten.the-variants.{Refused as NotWritten}
 use Rattle.promises.specs.Back.{answerFor}
 use Rattle.promises.specs.Known.{little, piece}
 
--- whether a number is one of these
-abbrev pub isOneOf : List ℕ → ℕ → Bool
-isOneOf [] n = false
-isOneOf (m ∷ ms) n = if eqb n m then true else isOneOf ms n
-
 -- the refusals of a tensor that can't be laid, in the order of the tests
 abbrev pub layoutRefusal : ℕ → Bool
-layoutRefusal n = isOneOf (35 ∷ 13 ∷ 14 ∷ 15 ∷ 36 ∷ []) n
+layoutRefusal n = isOneOf n (35 ∷ 13 ∷ 14 ∷ 15 ∷ 36 ∷ [])
 
 -- the refusals of the writer, in the order of its tests
 abbrev pub writerRefusal : ℕ → Bool
-writerRefusal n = isOneOf (30 ∷ 31 ∷ 32 ∷ 33 ∷ 34 ∷ 35 ∷ 13 ∷ 14 ∷ 15 ∷ 36 ∷ 37 ∷ 38 ∷ []) n
+writerRefusal n = isOneOf n (30 ∷ 31 ∷ 32 ∷ 33 ∷ 34 ∷ 35 ∷ 13 ∷ 14 ∷ 15 ∷ 36 ∷ 37 ∷ 38 ∷ [])
 
 -- how many places a refusal of the writer may have, counted from 0, for a sheet of so many bytes
 -- and tensors: a tensor's number, a place in the sheet or its end, or 0 alone

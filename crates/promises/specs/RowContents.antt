@@ -7,7 +7,7 @@ use lib.Dec.{eqb}
 use lib.ListN.{length, take, drop}
 use Rattle.reading.specs.Choice.{if_then_else_}
 use Rattle.reading.specs.Reading.{Answer, accepted, seen}
-use Rattle.rows.specs.Columns.{word, placeIn, lengthIn, typeIn, kindIn, dimensionsIn, offsetIn, sizeIn}
+use Rattle.rows.specs.Columns.{placeIn, lengthIn, typeIn, scalarIn, stringPlaceIn, stringLengthIn, itemTypeIn, countIn, keptIn, firstItemIn, kindIn, dimensionsIn, firstLengthIn, secondLengthIn, thirdLengthIn, fourthLengthIn, offsetIn, sizeIn}
 use Rattle.scalars.specs.Scalars.{scalarOf}
 use Rattle.values.specs.declared.Dialect.{Dialect}
 use Rattle.values.specs.declared.Span.{Span}
@@ -30,9 +30,9 @@ spanInRow row = record { place = placeIn row; len = lengthIn row }
 -- kept count and the place of its first item; or the scalar that its word stands for
 abbrev pub valueInRow : List ℕ → Value
 valueInRow row =
-    if eqb (typeIn row) 8 then Text (record { place = word 3 row; len = word 4 row })
-    else if eqb (typeIn row) 9 then Array (record { item = word 3 row; count = word 4 row; kept = word 5 row; first = word 6 row })
-    else Single (scalarOf (typeIn row) (word 3 row))
+    if eqb (typeIn row) 8 then Text (record { place = stringPlaceIn row; len = stringLengthIn row })
+    else if eqb (typeIn row) 9 then Array (record { item = itemTypeIn row; count = countIn row; kept = keptIn row; first = firstItemIn row })
+    else Single (scalarOf (typeIn row) (scalarIn row))
 
 -- what an entry's row says of the bytes: its key, and its value with all its items
 abbrev pub entryInRow : Dialect → List ℕ → List ℕ → EntryContent
@@ -40,7 +40,7 @@ entryInRow k bytes row = record { key = bytesAt bytes (spanInRow row); value = v
 
 -- the shape of a tensor's row: its count of dimensions, and four lengths
 abbrev pub shapeInRow : List ℕ → Shape
-shapeInRow row = record { dimensions = dimensionsIn row; first = word 4 row; second = word 5 row; third = word 6 row; fourth = word 7 row }
+shapeInRow row = record { dimensions = dimensionsIn row; first = firstLengthIn row; second = secondLengthIn row; third = thirdLengthIn row; fourth = fourthLengthIn row }
 
 -- what a tensor's row says of the bytes: its name, shape, kind, offset and size
 abbrev pub tensorInRow : List ℕ → List ℕ → TensorContent

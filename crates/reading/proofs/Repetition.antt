@@ -9,7 +9,7 @@ use native.Mathlib.Numerals.{add-one}
 use lib.ListN.{length, take, drop, set, take-append-drop}
 use lib.Seq.{drop-drop, take-suc-set, drop-set-lt}
 use lib.Dec.{T}
-use Rattle.reading.specs.Back.{got, bytesOfAll}
+use Rattle.reading.specs.Back.{got}
 use Rattle.reading.specs.Each.{each, times, fold, filled}
 use Rattle.reading.specs.Reading.{Reading, done, Answer, accepted, refused, run, _>>=_, andThen, seen, passed, isAccepted}
 use Rattle.reading.proofs.RunLaws.{run-bind, goes-on, stops}
@@ -39,17 +39,17 @@ got-cons a (accepted l p) h = refl
 got-cons a (refused n p) h = let z : _≡_ {A = ℕ} 0 1 = cc in absurd (omega arith)
 
 -- a row that is stored, and the rows that are left
-row-cons : {B : Type 0} (bytesOfAll : List B) (i : ℕ) (b : B) (bs : List B) (k : ℕ) → i < length bytesOfAll
-    → take i bytesOfAll ++ ((b ∷ bs) ++ drop (suc k) (drop i bytesOfAll)) ≡ take (i + 1) (set bytesOfAll i b) ++ (bs ++ drop k (drop (i + 1) (set bytesOfAll i b)))
-row-cons bytesOfAll i b bs k h =
+row-cons : {B : Type 0} (table : List B) (i : ℕ) (b : B) (bs : List B) (k : ℕ) → i < length table
+    → take i table ++ ((b ∷ bs) ++ drop (suc k) (drop i table)) ≡ take (i + 1) (set table i b) ++ (bs ++ drop k (drop (i + 1) (set table i b)))
+row-cons table i b bs k h =
     let e : i + suc k ≡ suc i + k = omega arith in
-    rw (add-one, take-suc-set bytesOfAll i b h, drop-set-lt (suc i) bytesOfAll i b (omega arith), drop-drop, drop-drop, e, append-assoc)
+    rw (add-one, take-suc-set table i b h, drop-set-lt (suc i) table i b (omega arith), drop-drop, drop-drop, e, append-assoc)
 
-filled-cons : {A B : Type 0} (row : A → B) (bytesOfAll : List B) (i : ℕ) (a : A) (r : Answer (List A)) → i < length bytesOfAll → isAccepted (andThen r (λ l p. accepted (a ∷ l) p)) ≡ true
-    → take i bytesOfAll ++ filled row (drop i bytesOfAll) (andThen r (λ l p. accepted (a ∷ l) p)) ≡ take (i + 1) (set bytesOfAll i (row a)) ++ filled row (drop (i + 1) (set bytesOfAll i (row a))) r
+filled-cons : {A B : Type 0} (row : A → B) (table : List B) (i : ℕ) (a : A) (r : Answer (List A)) → i < length table → isAccepted (andThen r (λ l p. accepted (a ∷ l) p)) ≡ true
+    → take i table ++ filled row (drop i table) (andThen r (λ l p. accepted (a ∷ l) p)) ≡ take (i + 1) (set table i (row a)) ++ filled row (drop (i + 1) (set table i (row a))) r
 unfolding andThen
-filled-cons row bytesOfAll i a (accepted l p) b h = row-cons bytesOfAll i (row a) (map row l) (length l) b
-filled-cons row bytesOfAll i a (refused n p) b h = let z : _≡_ {A = ℕ} 0 1 = cc in absurd (omega arith)
+filled-cons row table i a (accepted l p) b h = row-cons table i (row a) (map row l) (length l) b
+filled-cons row table i a (refused n p) b h = let z : _≡_ {A = ℕ} 0 1 = cc in absurd (omega arith)
 
 -- a turn, as a loop has it that counts i up to n, with the state z
 module _ {S A : Type 0} (m : S → Reading A) (f : S → A → S) (s : List ℕ) (at n i : ℕ) (z : S) where
@@ -82,16 +82,16 @@ module _ {S A : Type 0} (m : S → Reading A) (f : S → A → S) (s : List ℕ)
       let o : _≡_ {A = ℕ} 0 1 = cc in
       omega arith
 
-  pub each-last : {B : Type 0} (row : A → B) (bytesOfAll : List B) → n ≤ i → take i bytesOfAll ++ filled row (drop i bytesOfAll) (run (each m f (n - i) z) s at) ≡ bytesOfAll
-  each-last row bytesOfAll h = ap (λ r. take i bytesOfAll ++ filled row (drop i bytesOfAll) r) (each-ends h) ∙ take-append-drop i bytesOfAll
+  pub each-last : {B : Type 0} (row : A → B) (table : List B) → n ≤ i → take i table ++ filled row (drop i table) (run (each m f (n - i) z) s at) ≡ table
+  each-last row table h = ap (λ r. take i table ++ filled row (drop i table) r) (each-ends h) ∙ take-append-drop i table
 
   pub each-accepted : i < n → {a : A} {q : ℕ} → accepted a q ≡ run (m z) s at → isAccepted (run (each m f (n - i) z) s at) ≡ true → isAccepted (run (each m f (n - (i + 1)) (f z a)) s q) ≡ true
   each-accepted below {a} e all = accepted-then a _ (rw (each-more below e) at all)
 
-  pub each-filled : i < n → {a : A} {q : ℕ} → accepted a q ≡ run (m z) s at → isAccepted (run (each m f (n - i) z) s at) ≡ true → {B : Type 0} (row : A → B) (bytesOfAll : List B) → i < length bytesOfAll
-      → take i bytesOfAll ++ filled row (drop i bytesOfAll) (run (each m f (n - i) z) s at) ≡ take (i + 1) (set bytesOfAll i (row a)) ++ filled row (drop (i + 1) (set bytesOfAll i (row a))) (run (each m f (n - (i + 1)) (f z a)) s q)
-  each-filled below {a} e all row bytesOfAll b =
-      ap (λ r. take i bytesOfAll ++ filled row (drop i bytesOfAll) r) (each-more below e) ∙ filled-cons row bytesOfAll i a _ b (rw (each-more below e) at all)
+  pub each-filled : i < n → {a : A} {q : ℕ} → accepted a q ≡ run (m z) s at → isAccepted (run (each m f (n - i) z) s at) ≡ true → {B : Type 0} (row : A → B) (table : List B) → i < length table
+      → take i table ++ filled row (drop i table) (run (each m f (n - i) z) s at) ≡ take (i + 1) (set table i (row a)) ++ filled row (drop (i + 1) (set table i (row a))) (run (each m f (n - (i + 1)) (f z a)) s q)
+  each-filled below {a} e all row table b =
+      ap (λ r. take i table ++ filled row (drop i table) r) (each-more below e) ∙ filled-cons row table i a _ b (rw (each-more below e) at all)
 
 -- the same where there is no state
 module _ {A : Type 0} (m : Reading A) (s : List ℕ) (at n i : ℕ) where
@@ -110,7 +110,7 @@ module _ {A : Type 0} (m : Reading A) (s : List ℕ) (at n i : ℕ) where
   pub times-never : i < n → {w p : ℕ} → refused w p ≡ run m s at → isAccepted (run (times (n - i) m) s at) ≡ true → ⊥
   times-never = each-never {S = Unit {0}} (λ z. m) (λ z a. z) s at n i tt
 
-  pub times-last : {B : Type 0} (row : A → B) (bytesOfAll : List B) → n ≤ i → take i bytesOfAll ++ filled row (drop i bytesOfAll) (run (times (n - i) m) s at) ≡ bytesOfAll
+  pub times-last : {B : Type 0} (row : A → B) (table : List B) → n ≤ i → take i table ++ filled row (drop i table) (run (times (n - i) m) s at) ≡ table
   times-last = each-last {S = Unit {0}} (λ z. m) (λ z a. z) s at n i tt
 
   pub times-accepted : i < n → {a : A} {q : ℕ} → accepted a q ≡ run m s at → isAccepted (run (times (n - i) m) s at) ≡ true → isAccepted (run (times (n - (i + 1)) m) s q) ≡ true
@@ -122,8 +122,8 @@ module _ {A : Type 0} (m : Reading A) (s : List ℕ) (at n i : ℕ) where
       let t = each-more {S = Unit {0}} (λ z. m) (λ z a. z) s at n i tt below e in
       ap got t ∙ got-cons a (run (times (n - (i + 1)) m) s q) (rw t at all)
 
-  pub times-filled : i < n → {a : A} {q : ℕ} → accepted a q ≡ run m s at → isAccepted (run (times (n - i) m) s at) ≡ true → {B : Type 0} (row : A → B) (bytesOfAll : List B) → i < length bytesOfAll
-      → take i bytesOfAll ++ filled row (drop i bytesOfAll) (run (times (n - i) m) s at) ≡ take (i + 1) (set bytesOfAll i (row a)) ++ filled row (drop (i + 1) (set bytesOfAll i (row a))) (run (times (n - (i + 1)) m) s q)
+  pub times-filled : i < n → {a : A} {q : ℕ} → accepted a q ≡ run m s at → isAccepted (run (times (n - i) m) s at) ≡ true → {B : Type 0} (row : A → B) (table : List B) → i < length table
+      → take i table ++ filled row (drop i table) (run (times (n - i) m) s at) ≡ take (i + 1) (set table i (row a)) ++ filled row (drop (i + 1) (set table i (row a))) (run (times (n - (i + 1)) m) s q)
   times-filled = each-filled {S = Unit {0}} (λ z. m) (λ z a. z) s at n i tt
 
 -- back from what is seen of an answer

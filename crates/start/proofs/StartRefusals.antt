@@ -44,7 +44,7 @@ module _ {l : Limits} {s : List ℕ} where
 abbrev pub Lacking : List ℕ → (ℕ → ℕ → Type 0) → Rooms → Type 0
 Lacking s P rooms = (k : Dialect) (p : ℕ) → Sure s (size k) p (λ n q. (o : ℕ) → o ≤ length s → (rooms .tensors < n → P 6 o) × (rooms .entries < n → P 6 o))
 
--- the start, with 6 for want of rows
+-- the start, with 6 where there are too few rows
 module _ {l : Limits} {s : List ℕ} {P : ℕ → ℕ → Type 0} (given : (n q : ℕ) → isOneOf n versionRefusals ≡ true → q ≤ length s → P n q) (rooms : Rooms) (lacking : Lacking s P rooms) where
   refuses-counts : (k : Dialect) → Refuses l s P (counts rooms k)
   unfolding counts

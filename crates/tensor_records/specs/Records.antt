@@ -13,7 +13,7 @@ use Rattle.header.specs.Format.{FullHeader}
 use Rattle.header.specs.Answers.{readerRun}
 use Rattle.header.specs.declared.HeaderRead.{HeaderRead}
 use Rattle.header.specs.declared.HeaderRead.the-variants.{Found as FoundHeader, Refused as NoHeader}
-use Rattle.rows.specs.Columns.{word, placeIn, lengthIn, kindIn, dimensionsIn, offsetIn, sizeIn}
+use Rattle.rows.specs.Columns.{placeIn, lengthIn, kindIn, dimensionsIn, firstLengthIn, secondLengthIn, thirdLengthIn, fourthLengthIn, offsetIn, sizeIn}
 use Rattle.tensor_records.specs.declared.TensorRecord.{TensorRecord}
 use Rattle.tensor_records.specs.declared.RecordGot.{RecordGot}
 use Rattle.tensor_records.specs.declared.RecordGot.the-variants.{Found, Nothing}
@@ -25,10 +25,10 @@ recordOf row = record {
   «name_len» = lengthIn row;
   kind = kindIn row;
   dimensions = dimensionsIn row;
-  first = word 4 row;
-  second = word 5 row;
-  third = word 6 row;
-  fourth = word 7 row;
+  first = firstLengthIn row;
+  second = secondLengthIn row;
+  third = thirdLengthIn row;
+  fourth = fourthLengthIn row;
   offset = offsetIn row;
   size = sizeIn row;
 }

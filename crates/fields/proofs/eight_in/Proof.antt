@@ -1,4 +1,4 @@
--- `fields::eight_in` meets its contract: two halves with the little end first, and where big says
+-- `fields::eight_in` meets its contract: two little-endian halves, and where big says
 -- so the two turned round, each and with the other. Assumes nothing.
 use borrow.Author.Needs.{needs}
 use Prim.Native.Nat.{ℕ, _+_, _%_, _/_, _≤_, _<_}

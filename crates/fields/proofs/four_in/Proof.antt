@@ -1,4 +1,4 @@
--- `fields::four_in` meets its contract: its bytes one by one, with the little end first, and turned
+-- `fields::four_in` meets its contract: its bytes one by one as a little-endian number, turned
 -- round where big says so. Assumes nothing.
 use borrow.Author.Needs.{needs}
 use mathlib.Core.Path.{_≡_, sym, ap, _∙_}
@@ -13,7 +13,7 @@ use Rattle.fields.proofs.Swaps.{turned-four}
 use Rattle.fields.proofs.four_in.Statement.{statement}
 use Rattle.fields.proofs.four_in.Tie as tie
 
--- the bytes as they stand, the little end first
+-- the bytes as they stand, little-endian
 little-end : (c : tie.After-four) →
     let a = c .before .before .before .before .before .before .args in
     c .four .result ≡ leValue (take 4 (drop (a .at) (now (a .s))))
