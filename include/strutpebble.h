@@ -26,7 +26,9 @@ extern "C" {
 /* The version of the library that was linked, as SP_VERSION_NUMBER is. */
 uint64_t sp_version(void);
 
-/* Refusals. */
+/* Refusals. SP_CUT_OFF is the only answer over a prefix that more bytes of the same file can
+ * change: whatever else a function returned and wrote, it returns and writes for every longer
+ * prefix, with the same ceilings, cap and number of rows. So it may be kept. */
 enum {
     SP_CUT_OFF = 1,               /* the header does not end inside these bytes: fetch more */
     SP_OLDER_FORMAT = 2,          /* the magic of a format before GGUF */

@@ -83,6 +83,28 @@ static void ceilings_hold(void) {
     CHECK(sp_read(file, 57, 3, 39, 3, NULL, 0, NULL, 0, answer) == SP_TOO_FEW_ROWS);
 }
 
+/* The header of the sheet ends at 57. Fewer bytes are cut off; with that many, or more, the answer
+ * and the row are the same, whatever the bytes after it are. */
+static void more_bytes_change_nothing(void) {
+    uint64_t whole[SP_ANSWER_WORDS], answer[SP_ANSWER_WORDS];
+    uint8_t file[128];
+    sp_tensor row, again;
+    memset(file, 0xff, sizeof file);
+    CHECK(sp_write(sheet, sizeof sheet, 3, 0, 32, file, 64, answer) == 0);
+    CHECK(sp_read(file, 57, 3, 39, 3, NULL, 0, &row, 1, whole) == 0);
+    for (size_t n = 0; n <= sizeof file; n++) {
+        memset(&again, 0, sizeof again);
+        uint64_t refusal = sp_read(file, n, 3, 39, 3, NULL, 0, &again, 1, answer);
+        CHECK(refusal == (n < 57 ? SP_CUT_OFF : 0));
+        CHECK(n < 57 || memcmp(answer, whole, sizeof answer) == 0);
+        CHECK(n < 57 ? again.size == 0 : memcmp(&again, &row, sizeof row) == 0);
+        CHECK(sp_measure(file, n, 3, 39, answer) == refusal);
+        CHECK(n < 57 || memcmp(answer, whole, sizeof answer) == 0);
+        CHECK(sp_model_family(file, n, answer) == (n < 57 ? SP_CUT_OFF : SP_ABSENT));
+        CHECK(n < 8 || sp_measure(file, n, 2, 39, answer) == SP_VERSION_ABOVE_CEILING);
+    }
+}
+
 /* Every number has words of its own, and what is no number has others. */
 static void reasons(void) {
     static const uint64_t numbers[] = {0,  1,  2,  3,  4,  5,  6,  7,  8,  9,   10,  11, 12,
@@ -111,6 +133,7 @@ int main(void) {
     an_entry_is_a_struct();
     null_is_no_bytes();
     ceilings_hold();
+    more_bytes_change_nothing();
     reasons();
     versions_agree();
     return failed;

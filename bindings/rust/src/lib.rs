@@ -3,7 +3,8 @@
 //! Give [`read`] the front of a file, often its first 64 KiB, and it answers with the [`Header`]:
 //! its metadata entries, its tensors, and which bytes of the file hold each tensor; or with a
 //! [`Refusal`], a reason and a place. [`Reason::CutOff`] means that the header does not end inside
-//! these bytes: fetch more. Names and strings are parts of the bytes that were given.
+//! these bytes: fetch more. Any other answer stays, whatever bytes follow, and may be kept. Names and
+//! strings are parts of the bytes that were given.
 //!
 //! A [`Sheet`] describes a header to write, and [`Sheet::write`] writes it.
 //!

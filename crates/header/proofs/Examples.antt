@@ -5,19 +5,20 @@ use mathlib.Core.Path.{_≡_, refl}
 use mathlib.Core.List.{List, [], _∷_, _++_}
 use mathlib.Core.Bool.{true, false}
 use native.Mathlib.Omega.{arith}
-use lib.ListN.{take}
+use lib.ListN.{take, replicate}
 use Rattle.fields.specs.Bytes.{little, bytesOf, Within}
 use Rattle.reading.specs.Back.{bytesOfAll}
 use Rattle.reading.specs.Ceilings.{under, full}
 use Rattle.reading.specs.Each.{each}
 use Rattle.reading.specs.Reading.{accepted, refused, run, here, seen, _>>=_}
 use Rattle.fields.specs.Value.{number}
-use Rattle.header.specs.Answers.{readerRun}
+use Rattle.header.specs.Answers.{Outcome, readerRun, readerOutcome}
 use Rattle.kinds.specs.Table.{blockOf}
 use Rattle.tensors.specs.Contents.{TensorContent, lengthBytes, shapeBytes, kindAndOffsetBytes, tensorBytes, FitsLength, FitsShape, contentOf}
 use Rattle.values.specs.Contents.{sizeBytes, textBytes, typeBytes}
 use Rattle.values.specs.Format.{value, size, textLooking, text, alignmentKey, key, type, valueOf, entry}
 use Rattle.scalars.specs.Scalars.{scalarWidth}
+use Rattle.tensors.specs.Rows.{tensorRow}
 use Rattle.tensors.specs.Format.{lengthAt, lengthsOf, shape, kindAndOffset, tensor}
 use Rattle.header.specs.Contents.{Contents, headerBytes, summaryIn, FitsContents}
 use Rattle.start.specs.Contents.{startBytes}
@@ -97,6 +98,43 @@ one-row = refl
 pub a-byte-less : readerRun full 0 [] ([] ∷ [] ∷ []) (take 89 tensors3) ≡ refused 1 82
 unfolding run under each header magic version start counts size number here _>>=_ tensor text textLooking shape lengthsOf lengthAt kindAndOffset blockOf
 a-byte-less = refl
+
+-- What more bytes change, of a and b in version 3, with three rows for tensors that hold zeros.
+
+abbrev unused : List ℕ
+unused = replicate 10 0
+
+-- what a refusal comes to
+abbrev nothingRead : ℕ → ℕ → Outcome
+nothingRead n p = record { answer = refused n p; entries = []; tensors = replicate 3 unused }
+
+-- what their header comes to: a row each for a and b, and the third as it was
+abbrev bothAB : Outcome
+bothAB = record { answer = accepted (plain 3 2 90 96) 90; entries = []; tensors = tensorRow (flat 32 0 5 0 20) ∷ tensorRow (flat 65 1 3 32 6) ∷ unused ∷ [] }
+
+-- all but the last byte of the header
+pub header-cut-off : readerOutcome full 3 [] (replicate 3 unused) (take 89 tensors3) ≡ nothingRead 1 82
+unfolding run seen under each header magic version start counts size number here _>>=_ tensor text textLooking shape lengthsOf lengthAt kindAndOffset blockOf
+header-cut-off = refl
+
+-- the 90 bytes of the header
+pub header-alone : readerOutcome full 3 [] (replicate 3 unused) tensors3 ≡ bothAB
+unfolding run seen under each header magic version start counts size number here _>>=_ tensor text textLooking shape lengthsOf lengthAt kindAndOffset blockOf
+header-alone = refl
+
+-- the whole file: the gap of 6 bytes before the data, and 38 bytes of data
+pub header-and-data : readerOutcome full 3 [] (replicate 3 unused) (tensors3 ++ replicate 6 0 ++ replicate 38 255) ≡ bothAB
+unfolding run seen under each header magic version start counts size number here _>>=_ tensor text textLooking shape lengthsOf lengthAt kindAndOffset blockOf
+header-and-data = refl
+
+-- eight bytes are enough to refuse version 4, and more of them say the same
+pub version-4 : readerOutcome full 3 [] (replicate 3 unused) (71 ∷ 71 ∷ 85 ∷ 70 ∷ 4 ∷ 0 ∷ 0 ∷ 0 ∷ []) ≡ nothingRead 4 4
+unfolding run seen under header magic version start number here _>>=_
+version-4 = refl
+
+pub version-4-and-more : readerOutcome full 3 [] (replicate 3 unused) (71 ∷ 71 ∷ 85 ∷ 70 ∷ 4 ∷ replicate 100 0) ≡ nothingRead 4 4
+unfolding run seen under header magic version start number here _>>=_
+version-4-and-more = refl
 
 -- big-endian, version 3, no records
 pub big-end : readerRun full 0 [] [] (70 ∷ 85 ∷ 71 ∷ 71 ∷ 0 ∷ 0 ∷ 0 ∷ 3 ∷ 0 ∷ 0 ∷ 0 ∷ 0 ∷ 0 ∷ 0 ∷ 0 ∷ 0 ∷ 0 ∷ 0 ∷ 0 ∷ 0 ∷ 0 ∷ 0 ∷ 0 ∷ 0 ∷ [])

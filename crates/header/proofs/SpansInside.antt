@@ -9,7 +9,7 @@ use lib.ListN.{length, drop, length-map}
 use lib.Seq.{take-at}
 use Rattle.reading.specs.Back.{All, Sure}
 use Rattle.reading.specs.Each.{each, fold}
-use Rattle.reading.specs.Reading.{accepted, seen}
+use Rattle.reading.specs.Reading.{accepted, run, seen}
 use Rattle.reading.specs.Ceilings.{under}
 use Rattle.reading.specs.declared.Limits.{Limits}
 use Rattle.reading.proofs.Onward.{onward, all-so}
@@ -52,15 +52,18 @@ header-ends rooms cap s =
     sure-here _ (sure-check (leb (padded (fold latest 32 es) e) greatest) 18 e _ (λ fits.
     sure-done (refl, all-so (entry-later (c .dialect) s q e up) es h, g .0))))))
 
--- whatever a reader accepts, with any ceilings, cap and tables: what it points at ends at or before
+-- whatever a reader accepts, with any ceilings, rooms and cap: what it points at ends at or before
 -- the header's end, which is within the bytes
-pub spans-inside : (limits : Limits) (cap : ℕ) (es ts : List (List ℕ)) (s : List ℕ) {w : FullHeader} {q : ℕ} → accepted w q ≡ readerRun limits cap es ts s → SpansInside s w
-spans-inside limits cap es ts s {w} {q} read =
-    let rooms : Rooms = record { entries = length es; tensors = length ts } in
+pub spans-within : (limits : Limits) (rooms : Rooms) (cap : ℕ) (s : List ℕ) {w : FullHeader} {q : ℕ} → accepted w q ≡ run (under limits (header rooms cap)) s 0 → SpansInside s w
+spans-within limits rooms cap s {w} {q} read =
     let h = sure-under limits (header-ends rooms cap s) .holds w q read in
     let e : q ≡ w .head .end = h .0 in
     let i = inside (under limits (header rooms cap)) s 0 read in
     record { end = omega (arith, i, e); entries = subst (λ x. All (EntryEndsBy (dialectOf w) s x) (w .entries)) e (h .1); tensors = subst (λ x. All (λ (t : Tensor). EndsBy x (t .name)) (w .tensors)) e (h .2) }
+
+-- so with any tables
+pub spans-inside : (limits : Limits) (cap : ℕ) (es ts : List (List ℕ)) (s : List ℕ) {w : FullHeader} {q : ℕ} → accepted w q ≡ readerRun limits cap es ts s → SpansInside s w
+spans-inside limits cap es ts s read = spans-within limits (record { entries = length es; tensors = length ts }) cap s read
 
 -- so the bytes of each text are there: the fallback to none is never taken
 module _ {s : List ℕ} {w : FullHeader} (h : SpansInside s w) where

@@ -3,8 +3,10 @@
 use Prim.Native.Nat.{ℕ, _-_, _^_}
 use mathlib.Core.Path.{_≡_, refl}
 use mathlib.Core.List.{[], _∷_}
+use mathlib.Core.Bool.{true, false}
 use Rattle.kinds.specs.Table.{blockOf}
 use Rattle.layout.specs.Layout.{placeOf, Piece, laidOut, refusedAt, layoutFrom, layoutOf}
+use Rattle.layout.specs.Placement.{isPlacement}
 use Rattle.layout.specs.declared.Laid.{Laid}
 use Rattle.layout.specs.declared.Placed.the-variants.{At, Refused}
 
@@ -18,6 +20,20 @@ laid total next = record { total = total; next = next }
 two-tensors : layoutOf 32 (piece 5 0 ∷ piece 3 1 ∷ []) ≡ laidOut (0 ∷ 32 ∷ []) (laid 8 64)
 unfolding layoutFrom placeOf blockOf
 two-tensors = refl
+
+-- those offsets are a placement of 20 and 6 bytes, and a later one is too;
+-- an earlier one is none: 0 is before the end of a, and 24 is no multiple
+our-placement : isPlacement 32 (20 ∷ 6 ∷ []) (0 ∷ 32 ∷ []) ≡ true
+our-placement = refl
+
+later-placement : isPlacement 32 (20 ∷ 6 ∷ []) (0 ∷ 64 ∷ []) ≡ true
+later-placement = refl
+
+before-the-end : isPlacement 32 (20 ∷ 6 ∷ []) (0 ∷ 0 ∷ []) ≡ false
+before-the-end = refl
+
+no-multiple : isPlacement 32 (20 ∷ 6 ∷ []) (0 ∷ 24 ∷ []) ≡ false
+no-multiple = refl
 
 -- no tensors: no offsets, and an area of no bytes
 no-tensors : layoutOf 32 [] ≡ laidOut [] (laid 0 0)

@@ -2,14 +2,17 @@
 -- alignment and the space of each tensor. Assumes nothing.
 use Prim.Native.Nat.{ℕ, zero, suc, _+_, _%_, _≤_, _<_}
 use mathlib.Core.Path.{_≡_, refl, ap}
-use mathlib.Core.List.{List, [], _∷_}
+use mathlib.Core.List.{List, [], _∷_, map}
+use mathlib.Core.Bool.{Bool, true, _&&_, false≢true, and-eq-true-iff}
 use native.Mathlib.Omega.{arith}
 use native.Mathlib.Nat.{zero-mod}
+use borrow.Author.Tests.{eqb-true, eq-eqb, leb-true, le-leb}
+use lib.Dec.{leb, eqb}
 use lib.ListN.{length, getD}
 use Rattle.kinds.specs.Shape.{greatest}
 use Rattle.layout.specs.Padding.{padded}
 use Rattle.layout.specs.Layout.{placeOf, Piece, Layout, laidOut, refusedAt, ahead, followedBy, layoutFrom, layoutOf}
-use Rattle.layout.specs.Arrangement.{pieceSize, sizeAt, Arrangement}
+use Rattle.layout.specs.Placement.{pieceSize, mayStartAfter, Earliest}
 use Rattle.layout.specs.declared.Laid.{Laid}
 use Rattle.layout.specs.declared.Placed.{Placed}
 use Rattle.layout.specs.declared.Placed.the-variants.{At, Refused}
@@ -71,10 +74,17 @@ offsets-number : (a n : ℕ) (pieces : List Piece) → length (offsetsFrom a n p
 offsets-number a n [] = refl
 offsets-number a n (p ∷ pieces) = ap suc (offsets-number a (padded a (n + pieceSize p)) pieces)
 
--- without its first tensor a placement is one of the others
-others-arranged : (a : ℕ) {p : Piece} {pieces : List Piece} {s : ℕ} {starts : List ℕ} → Arrangement a (p ∷ pieces) (s ∷ starts) → Arrangement a pieces starts
-others-arranged a r =
-    record { number = omega (arith, r .number); aligned = λ i h. r .aligned (suc i) (omega arith); apart = λ i h. r .apart (suc i) (omega arith) }
+-- what it is for the first of a list to be placed, and then the others
+record Starts (a n start : ℕ) (others : Bool) : Type 0 where
+  multiple : start % a ≡ 0
+  after : n ≤ start
+  rest : others ≡ true
+
+starts-by : (a n start : ℕ) (others : Bool) → (eqb (start % a) 0 && leb n start && others) ≡ true → Starts a n start others
+starts-by a n start others e =
+    let f = and-eq-true-iff (eqb (start % a) 0 && leb n start) others .0 e in
+    let g = and-eq-true-iff (eqb (start % a) 0) (leb n start) .0 (f .0) in
+    record { multiple = eqb-true _ _ (g .0); after = leb-true _ _ (g .1); rest = f .1 }
 
 module _ (a : ℕ) (pos : 0 < a) where
   multiple-from : (n : ℕ) (pieces : List Piece) → n % a ≡ 0 → (i : ℕ) → i < length pieces → getD (offsetsFrom a n pieces) i 0 % a ≡ 0
@@ -92,7 +102,7 @@ module _ (a : ℕ) (pos : 0 < a) where
       omega arith
 
   apart-from : (n : ℕ) (pieces : List Piece) (i j : ℕ) → i < j → j < length pieces
-      → getD (offsetsFrom a n pieces) i 0 + sizeAt pieces i ≤ getD (offsetsFrom a n pieces) j 0
+      → getD (offsetsFrom a n pieces) i 0 + getD (map pieceSize pieces) i 0 ≤ getD (offsetsFrom a n pieces) j 0
   apart-from n [] i j g h = absurd (omega arith)
   apart-from n (p ∷ pieces) i zero g h = absurd (omega arith)
   apart-from n (p ∷ pieces) zero (suc j) g h =
@@ -108,7 +118,7 @@ module _ (a : ℕ) (pos : 0 < a) where
       let rest = low-end (padded a (n + pieceSize p)) pieces in
       omega arith
 
-  inside-from : (n : ℕ) (pieces : List Piece) (i : ℕ) → i < length pieces → getD (offsetsFrom a n pieces) i 0 + sizeAt pieces i ≤ endFrom a n pieces
+  inside-from : (n : ℕ) (pieces : List Piece) (i : ℕ) → i < length pieces → getD (offsetsFrom a n pieces) i 0 + getD (map pieceSize pieces) i 0 ≤ endFrom a n pieces
   inside-from n [] i h = absurd (omega arith)
   inside-from n (p ∷ pieces) zero h =
       let up = padded-above a pos (n + pieceSize p) in
@@ -120,15 +130,27 @@ module _ (a : ℕ) (pos : 0 < a) where
   aligned-end n [] e = e
   aligned-end n (p ∷ pieces) e = aligned-end (padded a (n + pieceSize p)) pieces (padded-multiple a pos (n + pieceSize p))
 
-  tight-from : (n : ℕ) (pieces : List Piece) (starts : List ℕ) → Arrangement a pieces starts → n ≤ getD starts 0 0
-      → (i : ℕ) → i < length pieces → getD (offsetsFrom a n pieces) i 0 ≤ getD starts i 0
-  tight-from n [] starts r low i h = absurd (omega arith)
-  tight-from n (p ∷ pieces) starts r low zero h = low
-  tight-from n (p ∷ pieces) [] r low (suc i) h = absurd (omega (arith, r .number))
-  tight-from n (p ∷ pieces) (s ∷ starts) r low (suc i) h =
-      let after : s + pieceSize p ≤ getD starts 0 0 = r .apart 0 (omega arith) in
-      let least = padded-least a pos (n + pieceSize p) (getD starts 0 0) (omega arith) (r .aligned 1 (omega arith)) in
-      tight-from (padded a (n + pieceSize p)) pieces starts (others-arranged a r) least i (omega arith)
+  -- the offsets keep the rules
+  placed-from : (low n : ℕ) (pieces : List Piece) → low ≤ n → n % a ≡ 0 → mayStartAfter a low (map pieceSize pieces) (offsetsFrom a n pieces) ≡ true
+  placed-from low n [] h e = refl
+  placed-from low n (p ∷ pieces) h e =
+      rw (eq-eqb (n % a) 0 e, le-leb low n h)
+      (placed-from (n + pieceSize p) (padded a (n + pieceSize p)) pieces (padded-above a pos (n + pieceSize p)) (padded-multiple a pos (n + pieceSize p)))
+
+  -- where n is the first place that any placement may take, the offsets from n on are the first of
+  -- all: no placement is ahead of them at any tensor
+  tight-from : (low n : ℕ) (pieces : List Piece) (starts : List ℕ) → ((x : ℕ) → x % a ≡ 0 → low ≤ x → n ≤ x)
+      → mayStartAfter a low (map pieceSize pieces) starts ≡ true → (i : ℕ) → getD (offsetsFrom a n pieces) i 0 ≤ getD starts i 0
+  tight-from low n [] [] first may i = omega arith
+  tight-from low n [] (s ∷ starts) first may i = absurd (false≢true may)
+  tight-from low n (p ∷ pieces) [] first may i = absurd (false≢true may)
+  tight-from low n (p ∷ pieces) (s ∷ starts) first may zero =
+      let by = starts-by a low s (mayStartAfter a (s + pieceSize p) (map pieceSize pieces) starts) may in
+      first s (by .multiple) (by .after)
+  tight-from low n (p ∷ pieces) (s ∷ starts) first may (suc i) =
+      let by = starts-by a low s (mayStartAfter a (s + pieceSize p) (map pieceSize pieces) starts) may in
+      let ours : n ≤ s = first s (by .multiple) (by .after) in
+      tight-from (s + pieceSize p) (padded a (n + pieceSize p)) pieces starts (λ x m h. padded-least a pos (n + pieceSize p) x (omega arith) m) (by .rest) i
 
 -- a list that was accepted at an alignment above 0
 module _ (a : ℕ) (pos : 0 < a) (pieces : List Piece) {offsets : List ℕ} {laid : Laid} (accepted : layoutOf a pieces ≡ laidOut offsets laid) where
@@ -141,11 +163,11 @@ module _ (a : ℕ) (pos : 0 < a) (pieces : List Piece) {offsets : List ℕ} {lai
   offsets-aligned i h = rw (ruled a _ 0 pieces accepted .offsets-are) (multiple-from a pos 0 pieces (zero-mod a) i h)
 
   -- tensors stand in order and do not overlap: each starts where those before it have ended
-  pub offsets-apart : (i j : ℕ) → i < j → j < length pieces → getD offsets i 0 + sizeAt pieces i ≤ getD offsets j 0
+  pub offsets-apart : (i j : ℕ) → i < j → j < length pieces → getD offsets i 0 + getD (map pieceSize pieces) i 0 ≤ getD offsets j 0
   offsets-apart i j g h = rw (ruled a _ 0 pieces accepted .offsets-are) (apart-from a pos 0 pieces i j g h)
 
   -- the area that is laid at the end holds every tensor
-  pub offsets-inside : (i : ℕ) → i < length pieces → getD offsets i 0 + sizeAt pieces i ≤ laid .next
+  pub offsets-inside : (i : ℕ) → i < length pieces → getD offsets i 0 + getD (map pieceSize pieces) i 0 ≤ laid .next
   offsets-inside i h = rw (ruled a _ 0 pieces accepted .offsets-are, ruled a _ 0 pieces accepted .end-is) (inside-from a pos 0 pieces i h)
 
   -- its length is a multiple of the alignment too
@@ -156,10 +178,9 @@ module _ (a : ℕ) (pos : 0 < a) (pieces : List Piece) {offsets : List ℕ} {lai
   pub end-fits : laid .next ≤ greatest
   end-fits = ruled a _ 0 pieces accepted .end-fits (omega arith)
 
-  -- so the offsets are a placement that keeps the rules
-  pub offsets-arranged : Arrangement a pieces offsets
-  offsets-arranged = record { number = offsets-for-each; aligned = offsets-aligned; apart = λ i h. offsets-apart i (suc i) (omega arith) h }
-
-  -- and no other placement that keeps them starts any tensor earlier
-  pub offsets-tight : {starts : List ℕ} → Arrangement a pieces starts → (i : ℕ) → i < length pieces → getD offsets i 0 ≤ getD starts i 0
-  offsets-tight {starts} r i h = rw (ruled a _ 0 pieces accepted .offsets-are) (tight-from a pos 0 pieces starts r (omega arith) i h)
+  -- so the offsets are a placement, and no placement starts any tensor earlier
+  pub offsets-earliest : Earliest a (map pieceSize pieces) offsets
+  offsets-earliest = rw (ruled a _ 0 pieces accepted .offsets-are) (record {
+    placed = placed-from a pos 0 0 pieces (omega arith) (zero-mod a);
+    least = λ starts may i. tight-from a pos 0 0 pieces starts (λ x m h. omega arith) may i;
+  })

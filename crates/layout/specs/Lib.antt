@@ -1,3 +1,3 @@
 pub mod Padding
 pub mod Layout
-pub mod Arrangement
+pub mod Placement

@@ -1,4 +1,5 @@
 pub mod KeysInside
 pub mod LastEntry
 pub mod LookupNeverSix
+pub mod LookupsStay
 pub mod Examples

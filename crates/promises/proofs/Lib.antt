@@ -5,8 +5,9 @@ pub mod SizesRead
 pub mod WrittenAnswer
 pub mod RowsSay
 pub mod WrittenTables
-pub mod RoundTrip
 pub mod Offsets
+pub mod WrittenEarliest
+pub mod RoundTrip
 pub mod KeysAscend
 pub mod OneResult
 pub mod Known

@@ -1,19 +1,19 @@
 -- The offsets in a header are those of the layout of its tensors. Assumes nothing.
-use Prim.Native.Nat.{ℕ, suc, _%_, _≤_, _<_}
+use Prim.Native.Nat.{ℕ, suc, _%_, _<_}
 use mathlib.Core.Path.{_≡_, refl, sym, ap, subst, _∙_}
 use mathlib.Core.List.{List, [], _∷_, map}
 use mathlib.Core.Bool.{Bool, true, false}
 use native.Mathlib.Omega.{arith}
 use borrow.Author.Tests.{eqb-false}
 use lib.Dec.{eqb}
-use lib.ListN.{length, getD}
+use lib.ListN.{length}
 use Rattle.reading.specs.Choice.{if_then_else_}
 use Rattle.layout.specs.declared.Laid.{Laid}
 use Rattle.layout.specs.declared.Placed.{Placed}
 use Rattle.layout.specs.declared.Placed.the-variants.{At, Refused}
 use Rattle.layout.specs.Layout.{nothingLaid, placeOf, Layout, laidOut, refusedAt, ahead, layoutFrom, layoutOf}
-use Rattle.layout.specs.Arrangement.{Arrangement}
-use Rattle.layout.proofs.OffsetFacts.{offsets-arranged, offsets-tight}
+use Rattle.layout.specs.Placement.{pieceSize, Earliest}
+use Rattle.layout.proofs.OffsetFacts.{offsets-earliest as layout-earliest}
 use Rattle.layout.proofs.Places.{layout-end, layout-stops, layout-goes-on, placed-by}
 use Rattle.values.specs.declared.Dialect.{Dialect}
 use Rattle.tensors.specs.Format.{lengths}
@@ -26,7 +26,7 @@ use Rattle.plan.specs.Plan.{laidOf}
 use Rattle.header.specs.Format.{isAlignment}
 use Rattle.writer.specs.declared.HeaderWritten.the-variants.{Written}
 use Rattle.writer.proofs.Planned.{PlannedBy, planned-by}
-use Rattle.promises.specs.Back.{answerFor, piecesIn, offsetsIn}
+use Rattle.promises.specs.Back.{answerFor, piecesIn, offsetsIn, sizesIn}
 use Rattle.promises.proofs.WrittenReadsBack.{wrote-plan}
 
 abbrev offsetIn : TensorContent → ℕ
@@ -73,6 +73,11 @@ pub offsets-computed : (a : ℕ) (ts : List SheetTensor) {offsets : List ℕ} {l
     → map (λ (t : TensorContent). t .offset) (laidFrom a nothingLaid ts) ≡ offsets
 offsets-computed a ts e = offsets-from a nothingLaid 0 ts e
 
+-- and its sizes those of the tensors that are laid
+sizes-laid : (a : ℕ) (laid : Laid) (ts : List SheetTensor) → map (λ (t : TensorContent). t .size) (laidFrom a laid ts) ≡ map pieceSize (map pieceOf ts)
+sizes-laid a laid [] = refl
+sizes-laid a laid (t ∷ ts) = ap (λ l. pieceSize (pieceOf t) ∷ l) (sizes-laid a (laidWith a laid t) ts)
+
 -- a layout that was accepted
 record Laying (layout : Layout) : Type 0 where
   offsets : List ℕ
@@ -105,11 +110,7 @@ module _ (k : Dialect) (a : ℕ) (s out : List ℕ) {end start : ℕ} (wrote : W
   are : offsetsIn a s ≡ laid-out .offsets
   are = offsets-computed a (recordsIn (sheetOf s) .tensors) (laid-out .is)
 
-  -- they are a placement that keeps the rules: each is a multiple of the alignment, and none is
-  -- before the end of the tensor before it
-  pub offsets-placed : Arrangement a (piecesIn s) (offsetsIn a s)
-  offsets-placed = subst (Arrangement a (piecesIn s)) (sym are) (offsets-arranged a (above-zero a (planned .aligned)) (piecesIn s) (laid-out .is))
-
-  -- and no other placement that keeps them starts any tensor earlier
-  pub offsets-least : {starts : List ℕ} → Arrangement a (piecesIn s) starts → (i : ℕ) → i < length (piecesIn s) → getD (offsetsIn a s) i 0 ≤ getD starts i 0
-  offsets-least {starts} r i h = subst (λ o. getD o i 0 ≤ getD starts i 0) (sym are) (offsets-tight a (above-zero a (planned .aligned)) (piecesIn s) (laid-out .is) r i h)
+  -- they are a placement of the tensors' sizes, and no placement starts any tensor earlier
+  pub offsets-earliest : Earliest a (sizesIn a s) (offsetsIn a s)
+  offsets-earliest =
+      rw (are, sizes-laid a nothingLaid (recordsIn (sheetOf s) .tensors)) (layout-earliest a (above-zero a (planned .aligned)) (piecesIn s) (laid-out .is))

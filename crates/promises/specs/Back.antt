@@ -41,6 +41,10 @@ piecesIn s = map pieceOf (recordsIn (sheetOf s) .tensors)
 abbrev pub offsetsIn : ℕ → List ℕ → List ℕ
 offsetsIn a s = map (λ (t : TensorContent). t .offset) (contentsFor a s .tensors)
 
+-- and the sizes
+abbrev pub sizesIn : ℕ → List ℕ → List ℕ
+sizesIn a s = map (λ (t : TensorContent). t .size) (contentsFor a s .tensors)
+
 -- what it is to be summed up as, where it ends and its data starts
 abbrev pub summaryFor : Dialect → ℕ → List ℕ → ℕ → ℕ → Summary
 summaryFor k a s end start = record { dialect = k; contents = contentsFor a s; alignment = a; end = end; start = start }

@@ -8,6 +8,7 @@ use lib.ListN.{length, take, drop}
 use Rattle.reading.specs.Choice.{if_then_else_}
 use Rattle.reading.specs.Reading.{Answer, accepted, seen}
 use Rattle.rows.specs.Columns.{placeIn, lengthIn, typeIn, scalarIn, stringPlaceIn, stringLengthIn, itemTypeIn, countIn, keptIn, firstItemIn, kindIn, dimensionsIn, firstLengthIn, secondLengthIn, thirdLengthIn, fourthLengthIn, offsetIn, sizeIn}
+use Rattle.layout.specs.Placement.{Earliest}
 use Rattle.scalars.specs.Scalars.{scalarOf}
 use Rattle.values.specs.declared.Dialect.{Dialect}
 use Rattle.values.specs.declared.Span.{Span}
@@ -68,6 +69,10 @@ pub record SaysSheet (k : Dialect) (a : ℕ) (s : List ℕ) (end start : ℕ) (e
   pub otherEntries : drop (length (contentsFor a s .entries)) (o .entries) ≡ drop (length (contentsFor a s .entries)) es
   pub tensors : map (tensorInRow bytes) (take (length (contentsFor a s .tensors)) (o .tensors)) ≡ contentsFor a s .tensors
   pub otherTensors : drop (length (contentsFor a s .tensors)) (o .tensors) ≡ drop (length (contentsFor a s .tensors)) ts
+
+-- tensors start as early as can be at the alignment a, by the sizes and offsets that their rows tell
+abbrev pub RowsEarliest : ℕ → List (List ℕ) → Type 0
+RowsEarliest a rows = Earliest a (map sizeIn rows) (map offsetIn rows)
 
 -- all that a header and both tables tell of the bytes: the header's version, byte order, alignment,
 -- end and start, and what as many rows say as it counts

@@ -1,16 +1,16 @@
 -- The laws of `run`, proved once for every program: one program after another, bytes that follow,
 -- and how far a program reads. Assumes nothing.
 use Prim.Native.Nat.{ℕ, _+_, _≤_, max}
-use mathlib.Core.Path.{_≡_, refl, sym, ap, _∙_}
+use mathlib.Core.Path.{_≡_, refl, sym, ap, subst, _∙_}
 use mathlib.Core.List.{List, _++_}
 use mathlib.Core.Bool.{Bool, true, false}
 use native.Mathlib.Omega.{arith}
 use lib.ListN.{length, take, drop, length-append, length-drop}
 use lib.Seq.{take-take, take-append-le, drop-append-le}
 use lib.Dec.{T, leb}
-use borrow.Author.Tests.{leb-true, le-leb}
+use borrow.Author.Tests.{leb-true, le-leb, ne-eqb}
 use Rattle.reading.specs.Choice.{if_then_else_}
-use Rattle.reading.specs.Reading.{Reading, done, refuse, place, field, known, Answer, accepted, refused, run, _>>=_, next, skip, andThen, final}
+use Rattle.reading.specs.Reading.{Reading, done, refuse, place, field, known, Answer, accepted, refused, run, _>>=_, next, skip, andThen, seen, final}
 
 -- a field that is wholly looked at, and one that nothing looks at
 pub run-next : {A : Type 0} (w : ℕ) (k : List ℕ → Reading A) (s : List ℕ) (at : ℕ) → run (next w k) s at ≡ (if leb (at + w) (length s) then run (k (take w (drop at s))) s (at + w) else refused 1 at)
@@ -37,7 +37,7 @@ run-bind (field l w k) f s at =
 run-bind (known x v p m) f s at = run-bind m f s at
 
 -- a field that is inside is as it was
-field-stays : (s t : List ℕ) (at w : ℕ) → at + w ≤ length s → take w (drop at (s ++ t)) ≡ take w (drop at s)
+pub field-stays : (s t : List ℕ) (at w : ℕ) → at + w ≤ length s → take w (drop at (s ++ t)) ≡ take w (drop at s)
 field-stays s t at w h =
     rw (drop-append-le at s t (omega arith), take-append-le w (drop at s) t (rw length-drop (omega arith)))
 
@@ -59,6 +59,19 @@ stable (place k) s t at h = stable (k at) s t at h
 stable (field l w k) s t at h =
     stable-next (λ bs p r. run (k (take l bs)) r p) s t at w (leb (at + w) (length s)) refl (stable (k (take l (take w (drop at s)))) s t (at + w)) h
 stable (known x v p m) s t at h = stable m s t at h
+
+-- and so does what is shown of it
+final-seen : {A C : Type 0} (view : A → C) (r : Answer A) → final (seen view r) ≡ final r
+unfolding seen
+final-seen view (accepted a q) = refl
+final-seen view (refused n p) = refl
+
+pub final-run : {A C : Type 0} (view : A → C) (r : Answer A) → T (final (seen view r)) → T (final r)
+final-run view r h = subst T (final-seen view r) h
+
+-- a refusal with any other number is one that stays
+pub other-than-1 : {A : Type 0} (r : Answer A) {n p : ℕ} → refused n p ≡ r → (n ≡ 1 → ⊥) → T (final r)
+other-than-1 r {n} e h = subst (λ x. T (final x)) e (rw (ne-eqb n 1 h) tt)
 
 -- the two ways on from a first program, as its caller has them
 pub goes-on : {A B : Type 0} (m : Reading A) (f : A → Reading B) (s : List ℕ) (at : ℕ) {a : A} {q : ℕ} → accepted a q ≡ run m s at → run (m >>= f) s at ≡ run (f a) s q

@@ -1,2 +1,3 @@
 pub mod RowsEnough
 pub mod NeverReturnsSix
+pub mod MoreBytes
