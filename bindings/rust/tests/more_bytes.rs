@@ -8,7 +8,7 @@ use std::fmt::Debug;
 
 use made::{a_and_b, made};
 use strutpebble::{file_type, find, find_string, measure, model_family};
-use strutpebble::{EntryRow, Options, Refusal, StringError, Summary, TensorRow};
+use strutpebble::{EntryRow, Options, Refusal, Summary, TensorRow};
 
 type Read = (Result<Summary, Refusal>, Vec<EntryRow>, Vec<TensorRow>);
 
@@ -19,34 +19,31 @@ fn rows(prefix: &[u8]) -> Read {
     (answer, entries, tensors)
 }
 
+/// What is asked over a prefix without rows.
+fn asked(prefix: &[u8]) -> impl PartialEq + Debug + '_ {
+    let strings = ["text", "tokens", "none"].map(|key| find_string(prefix, key));
+    let entries = ["text", "none"].map(|key| find(prefix, key));
+    (measure(prefix), entries, strings, model_family(prefix), file_type(prefix))
+}
+
 fn cut_off<T>(answer: &Result<T, Refusal>) -> bool {
     answer.as_ref().is_err_and(Refusal::wants_more)
 }
 
-/// Panics where an answer that is not cut off differs from that of the whole file.
-fn stays<T: PartialEq + Debug>(cut: bool, part: T, whole: T) {
-    assert!(cut || part == whole, "{part:?} became {whole:?}");
-}
-
-/// Compares each part of a file that is `at` least so long with the whole.
+/// Holds each part of a file, from so many bytes on, against the whole.
 fn compare(file: &[u8], at: usize) {
-    let whole = rows(file);
+    let whole = (rows(file), asked(file));
     for end in at..file.len() {
-        let (part, asked) = (&file[..end], |answer: Result<&[u8], StringError>| answer.err());
+        let part = &file[..end];
         let read = rows(part);
         if cut_off(&read.0) {
             assert_eq!((read.1, read.2), (vec![[9; 7]; 5], vec![[9; 10]; 5]));
         } else {
-            assert_eq!(read, whole, "{file:?}, of which {end} bytes");
+            assert_eq!(read, whole.0, "{file:?}, of which {end} bytes");
         }
-        let cut = cut_off(&measure(part));
-        stays(cut, measure(part), measure(file));
-        stays(cut, find(part, "text"), find(file, "text"));
-        stays(cut, find(part, "none"), find(file, "none"));
-        stays(cut, file_type(part), file_type(file));
-        stays(cut, find_string(part, "text").ok(), find_string(file, "text").ok());
-        stays(cut, asked(find_string(part, "tokens")), asked(find_string(file, "tokens")));
-        stays(cut, model_family(part).ok(), model_family(file).ok());
+        if !cut_off(&measure(part)) {
+            assert_eq!(asked(part), whole.1, "{file:?}, of which {end} bytes");
+        }
     }
 }
 
@@ -79,7 +76,7 @@ fn a_header_and_data_after_it() {
 fn each_byte_changed() {
     let file = rich(3, false);
     for place in 0..file.len() - 70 {
-        for byte in [0, 2, 13, 40, 0xff, file[place] ^ 1] {
+        for byte in [0, 13, 0xff] {
             let mut damaged = file.clone();
             damaged[place] = byte;
             compare(&damaged, place);
