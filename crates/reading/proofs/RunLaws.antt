@@ -60,7 +60,7 @@ stable (field l w k) s t at h =
     stable-next (λ bs p r. run (k (take l bs)) r p) s t at w (leb (at + w) (length s)) refl (stable (k (take l (take w (drop at s)))) s t (at + w)) h
 stable (known x v p m) s t at h = stable m s t at h
 
--- and so does what is shown of it
+-- what is shown of an answer stays exactly where the answer does
 final-seen : {A C : Type 0} (view : A → C) (r : Answer A) → final (seen view r) ≡ final r
 unfolding seen
 final-seen view (accepted a q) = refl
