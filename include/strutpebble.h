@@ -45,12 +45,13 @@ enum {
     SP_PRODUCT_OVERFLOW = 13,     /* a product of lengths above 2^64 - 1 */
     SP_SIZE_OVERFLOW = 14,        /* a size above 2^64 - 1 before its division */
     SP_TOTAL_OVERFLOW = 15,       /* the running total of products above 2^64 - 1 */
+    SP_PARTIAL_BLOCK = 17,        /* a first length that is not whole blocks of its kind */
     SP_DATA_START_OVERFLOW = 18,  /* the data would start above 2^64 - 1 */
 
     /* Of the range check. */
     SP_PAST_THE_FILE = 20,        /* a tensor's data ends after the file */
 
-    /* Of the writer, beside 13 to 15. */
+    /* Of the writer, beside 13 to 15 and 17. */
     SP_VERSION_NOT_WRITTEN = 30,  /* not version 1, 2 or 3 */
     SP_BAD_SHEET = 31,            /* the sheet is not well formed */
     SP_BAD_ALIGNMENT = 32,        /* an alignment of 0, or not a multiple of 8 */
@@ -88,6 +89,7 @@ static inline const char *sp_reason(uint64_t number) {
     case SP_PRODUCT_OVERFLOW: return "the product of the tensor's lengths is above 2^64 - 1";
     case SP_SIZE_OVERFLOW: return "the tensor's size is above 2^64 - 1 before its division";
     case SP_TOTAL_OVERFLOW: return "the tensors up to this one have more than 2^64 - 1 numbers";
+    case SP_PARTIAL_BLOCK: return "the tensor's first length is not whole blocks of its kind";
     case SP_DATA_START_OVERFLOW: return "the data would start above 2^64 - 1";
     case SP_PAST_THE_FILE: return "the tensor's data ends after the end of the file";
     case SP_VERSION_NOT_WRITTEN: return "the version to write is not 1, 2 or 3";
@@ -274,8 +276,8 @@ uint64_t sp_check_ranges(const sp_tensor *tensors, size_t tensor_rows, uint64_t 
  *
  * Returns 0 with the header's end and the start of the data in answer; bytes of out after that
  * start are left as they are. Otherwise returns the refusal's number and leaves out as it is; the
- * place is that of a byte in the sheet for SP_BAD_SHEET, the number of a tensor for 13 to 15, 35
- * and 36, and else 0. */
+ * place is that of a byte in the sheet for SP_BAD_SHEET, the number of a tensor for 13 to 15, 17,
+ * 35 and 36, and else 0. */
 uint64_t sp_write(const uint8_t *sheet, size_t sheet_len, uint32_t version, uint32_t big_endian,
                   uint64_t alignment, uint8_t *out, size_t out_len,
                   uint64_t answer[SP_ANSWER_WORDS]);

@@ -1,12 +1,13 @@
 //! One input through both readers, and every result compared.
 
+use crate::domain::{measure, Domain, OTHER_BLOCKS};
 use crate::inputs::WIDTHS;
 use crate::original::*;
 use crate::questions::Asked;
 use serde_json::Value;
-use std::collections::BTreeMap;
+use std::collections::{BTreeMap, BTreeSet};
 use std::io::Cursor;
-use strutpebble::{EntryRow, Header, Options, Place, Refusal, Summary, TensorRow};
+use strutpebble::{file_type, EntryRow, Header, Options, Place, Refusal, Summary, TensorRow};
 
 const ROWS: usize = 160;
 const UNTOUCHED_ENTRY: EntryRow = [7; 7];
@@ -18,6 +19,13 @@ struct Ours<'a> {
     entries: Vec<EntryRow>,
     tensors: Vec<TensorRow>,
     header: Result<Header<'a>, Refusal>,
+}
+
+impl Ours<'_> {
+    fn left_the_tables(&self) -> bool {
+        self.entries.iter().all(|row| *row == UNTOUCHED_ENTRY)
+            && self.tensors.iter().all(|row| *row == UNTOUCHED_TENSOR)
+    }
 }
 
 fn ours(bytes: &[u8], cap: u64) -> Ours<'_> {
@@ -59,9 +67,12 @@ pub fn class(message: &str) -> u64 {
     CLASSES.iter().find(|(text, _)| message.contains(text)).expect("an error that has no class").1
 }
 
+/// What the original says: its model and whether that is big-endian, or the class of its error.
+type Theirs = Result<(GGUFModel, bool), u64>;
+
 /// What the original says of the bytes as a file. Its own opening of a file reads the magic in the
 /// same way.
-fn theirs(bytes: &[u8], cap: u64) -> Result<(GGUFModel, bool), u64> {
+fn theirs(bytes: &[u8], cap: u64) -> Theirs {
     let magic = bytes.get(..4).ok_or(1u64)?;
     let (order, big) = match i32::from_le_bytes(magic.try_into().unwrap()) {
         FILE_MAGIC_GGML | FILE_MAGIC_GGMF | FILE_MAGIC_GGJT | FILE_MAGIC_GGLA => return Err(2),
@@ -136,53 +147,112 @@ fn value(row: &EntryRow, bytes: &[u8], big: bool, version: u32) -> Value {
     }
 }
 
-/// How many inputs agreed, by refusal (0: accepted).
+/// How many inputs agreed, by refusal (0: accepted), and how many are outside the domain.
 #[derive(Default)]
 pub struct Agreed {
     by_number: BTreeMap<u64, u64>,
     panics: u64,
-    no_rows: u64,
+    outside: BTreeMap<&'static str, u64>,
+    /// The kinds of another block that both accepted.
+    other_blocks: BTreeSet<u32>,
     /// What the questions answered of the same inputs.
     pub asked: Asked,
 }
 
 impl Agreed {
-    /// Gives one input to both. Panics where they differ.
+    /// Gives one input to both. Panics where they differ inside the domain, and where this project
+    /// does not do what it must outside.
     pub fn on(&mut self, bytes: &[u8], cap: u64) {
         let ours = ours(bytes, cap);
         let number = ours.answer.err().map_or(0, |refusal| number_of(refusal, bytes));
-        if number == 6 {
-            // More records than rows: outside the domain, since the original has no rows. The crate
-            // has rows for every count, and never gives this refusal.
+        assert!(number == 0 || ours.left_the_tables(), "rows: {bytes:?}");
+        let domain = Domain::of(bytes, ROWS as u64);
+        if domain == Domain::MoreRecords {
+            // The crate has rows for every count, and never gives this refusal.
+            assert_eq!(number, 6, "{bytes:?}");
             assert_ne!(ours.header.err().map(|refusal| refusal.number()), Some(6), "{bytes:?}");
-            self.no_rows += 1;
-            return;
+            return self.one_outside("more records than rows: here refusal 6");
         }
         let own = ours.header.as_ref().map(|header| header.summary());
         assert_eq!(own, ours.answer.as_ref().copied(), "the crate's own rows: {bytes:?}");
-        match std::panic::catch_unwind(|| theirs(bytes, cap)) {
-            Err(_) => {
+        // Nothing where the original panics.
+        let theirs = std::panic::catch_unwind(|| theirs(bytes, cap)).ok();
+        match domain {
+            Domain::PartialBlock(place) => self.on_partial_block(&ours, theirs, place, bytes),
+            Domain::OtherBlock(kind) => self.on_other_block(&ours, theirs, kind, bytes),
+            _ => self.on_same(&ours, theirs, bytes),
+        }
+    }
+
+    /// Inside the domain.
+    fn on_same(&mut self, ours: &Ours, theirs: Option<Theirs>, bytes: &[u8]) {
+        let number = ours.answer.err().map_or(0, |refusal| refusal.number());
+        match theirs {
+            None => {
                 assert_eq!(number, 11, "the original panics, and this is not kind 40: {bytes:?}");
                 self.panics += 1;
                 return;
             }
-            Ok(Err(class)) => self.on_refusal(&ours, class, bytes),
-            Ok(Ok((model, big))) => {
-                same_header(&ours, &model, big, bytes);
+            Some(Err(class)) => self.on_refusal(ours, class, bytes),
+            Some(Ok((model, big))) => {
+                same_header(ours, &model, big, bytes);
                 self.asked.on(bytes, &model);
             }
         }
         *self.by_number.entry(number).or_default() += 1;
     }
 
-    /// The original refuses, for a reason of this class: so must this project, and leave the tables
-    /// as they were.
+    /// The original refuses, for a reason of this class: so must this project.
     fn on_refusal(&mut self, ours: &Ours, class: u64, bytes: &[u8]) {
         let refusal = ours.answer.expect_err("accepted, and the original refuses");
         assert_eq!(refusal.number(), class, "refused at {}: {bytes:?}", refusal.place());
-        let left = ours.entries.iter().all(|row| *row == UNTOUCHED_ENTRY);
-        assert!(left && ours.tensors.iter().all(|row| *row == UNTOUCHED_TENSOR), "rows: {bytes:?}");
         self.asked.on_refusal(bytes, refusal);
+    }
+
+    /// A tensor is not whole blocks: this project refuses its record, and so does a question. The
+    /// original, too, came to the end of that record, or refused 14 for a larger block before it.
+    fn on_partial_block(&mut self, ours: &Ours, theirs: Option<Theirs>, place: u64, bytes: &[u8]) {
+        let refusal = ours.answer.expect_err("accepted, and a tensor is not whole blocks");
+        let said = (refusal.number(), refusal.place());
+        assert_eq!(said, (17, Place::Prefix(place)), "{bytes:?}");
+        assert_eq!(file_type(bytes), Err(refusal), "{bytes:?}");
+        self.one_outside(match theirs {
+            None => "partial blocks: here refusal 17, the original panics at a later kind 40",
+            Some(Ok(_)) => "partial blocks: here refusal 17, the original accepts",
+            Some(Err(1 | 7 | 10 | 11 | 13..=15)) => {
+                "partial blocks: here refusal 17, the original refuses for another reason"
+            }
+            Some(Err(class)) => panic!("the original refuses {class} before it: {bytes:?}"),
+        });
+    }
+
+    /// All tensors are whole blocks, and a kind has another block here. Only sizes of such kinds
+    /// may differ, and what follows from that: the original's blocks of two of the kinds have more
+    /// bytes, so that it may refuse 14 alone.
+    fn on_other_block(&mut self, ours: &Ours, theirs: Option<Theirs>, kind: u32, bytes: &[u8]) {
+        let number = ours.answer.err().map_or(0, |refusal| refusal.number());
+        let rows = ours.answer.map_or(0, |summary| summary.tensors);
+        for row in &ours.tensors[..rows] {
+            let wanted = measure(row[2] as u32, &row[4..8]).map(|(_, size)| size);
+            assert_eq!(Some(row[9]), wanted, "a size by the table: {bytes:?}");
+        }
+        let what = match theirs {
+            Some(Ok((model, big))) => {
+                same_header(ours, &model, big, bytes);
+                self.asked.on(bytes, &model);
+                self.other_blocks.insert(kind);
+                "another block: accepted, only sizes differ, and those are the table's"
+            }
+            Some(Err(class)) if class == number => "another block: refused, same class",
+            Some(Err(14)) if number != 17 => "another block: the original alone refuses 14",
+            None if number == 11 => "another block: kind 40 later, where the original panics",
+            _ => panic!("{number} here, and the original says another thing: {bytes:?}"),
+        };
+        self.one_outside(what);
+    }
+
+    fn one_outside(&mut self, what: &'static str) {
+        *self.outside.entry(what).or_default() += 1;
     }
 
     pub fn print(&self) {
@@ -198,8 +268,11 @@ impl Agreed {
             "{:>9}  kind 40, where the original panics and this reader refuses 11",
             self.panics
         );
-        println!("{:>9}  more records than rows, not compared", self.no_rows);
         println!("{:>9}  compared, no difference", all + self.panics);
+        for (what, count) in &self.outside {
+            println!("{count:>9}  outside the domain, {what}");
+        }
+        println!("{:>9}  of the 9 kinds of another block came up", self.other_blocks.len());
     }
 }
 
@@ -228,13 +301,15 @@ fn same_header(ours: &Ours, model: &GGUFModel, big: bool, bytes: &[u8]) {
     same_rows(header, &ours.entries[..entries], &ours.tensors[..tensors], bytes);
 }
 
+/// Panics where a row is not the original's tensor. Outside the domain the size of a kind that has
+/// another block here is held against the table instead.
 fn same_tensor(row: &TensorRow, tensor: &Tensor, bytes: &[u8]) {
     let mut lengths = [1; 4];
     lengths[..tensor.shape.len()].copy_from_slice(&tensor.shape);
     assert_eq!(text(bytes, row[0], row[1]), tensor.name);
     assert_eq!((row[2], row[3]), (tensor.kind.into(), tensor.n_dimensions.into()), "{bytes:?}");
-    let numbers = (&row[4..8], row[8], row[9]);
-    assert_eq!(numbers, (&lengths[..], tensor.offset, tensor.size), "{bytes:?}");
+    assert_eq!((&row[4..8], row[8]), (&lengths[..], tensor.offset), "{bytes:?}");
+    assert!(row[9] == tensor.size || OTHER_BLOCKS.contains(&tensor.kind), "{bytes:?}");
 }
 
 /// Panics where a header of the crate has other records than the rows that its reader filled.

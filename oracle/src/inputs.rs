@@ -1,5 +1,7 @@
 //! Headers that are made up, and damaged copies of them. The same seed gives the same inputs.
 
+use crate::domain::{block, OTHER_BLOCKS};
+
 /// A small generator of random numbers (xorshift).
 pub struct Random(u64);
 
@@ -117,32 +119,89 @@ fn entry(made: &mut Made, random: &mut Random) {
     }
 }
 
-fn tensor(made: &mut Made, random: &mut Random) {
-    made.text(&name(random));
+/// A kind: mostly one whose block is the same for both readers, or that has no size.
+fn kind(random: &mut Random) -> u64 {
+    const SAME: [u64; 31] = [
+        0, 0, 1, 1, 2, 3, 6, 7, 8, 10, 11, 12, 13, 14, 15, 16, 17, 18, 19, 21, 22, 23, 29, 31, 32,
+        33, 34, 35, 36, 37, 38,
+    ];
+    match random.below(12) {
+        0 => random.pick(&OTHER_BLOCKS).into(),
+        1 => random.below(45),
+        _ => random.pick(&SAME),
+    }
+}
+
+/// A length that is whole blocks: so many blocks, or where these are too many, so many numbers but
+/// for the rest.
+pub fn whole_blocks(length: u64, block: u64) -> u64 {
+    length.checked_mul(block).unwrap_or(length / block * block)
+}
+
+/// The lengths of a tensor. Mostly the first is whole blocks, since the readers differ by intent
+/// where it is not; then a tensor without dimensions, whose first length reads as 1, is given one.
+fn lengths(kind: u64, random: &mut Random) -> Vec<u64> {
+    if matches!(kind, 31..=33 | 36..=38) && random.below(3) == 0 {
+        // It has no size that is too large, only the total of all numbers is.
+        return vec![u64::MAX];
+    }
     let dimensions = if random.below(20) == 0 { 5 } else { random.below(5) };
-    made.number(4, dimensions);
-    for _ in 0..dimensions {
+    let length = |random: &mut Random| {
         let small = random.below(300);
-        let length = random.pick(&[
+        random.pick(&[
             1 << 32,
             0,
             u64::MAX,
             1 << 62,
             (1 << 62) - 1,
             1 << 63,
+            // So many blocks of kinds 9 and 39 are too many bytes by the original's table alone.
+            7 << 51,
             1 << 16,
             small,
             small,
             small,
             small,
             small,
-        ]);
-        made.number(8, length);
+        ])
+    };
+    let mut lengths: Vec<u64> = (0..dimensions).map(|_| length(random)).collect();
+    let block = block(kind as u32).unwrap_or(1);
+    if block > 1 && random.below(8) > 0 {
+        if lengths.is_empty() {
+            lengths.push(length(random));
+        }
+        lengths[0] = whole_blocks(lengths[0], block);
     }
-    let known = random.below(40);
-    let any = random.below(45);
-    made.number(4, random.pick(&[known, known, known, known, any]));
-    made.number(8, 8 * random.below(1000));
+    lengths
+}
+
+fn tensor_of(made: &mut Made, name: &[u8], kind: u64, lengths: &[u64], offset: u64) {
+    made.text(name);
+    made.number(4, lengths.len() as u64);
+    lengths.iter().for_each(|length| made.number(8, *length));
+    made.number(4, kind);
+    made.number(8, offset);
+}
+
+fn tensor(made: &mut Made, random: &mut Random) {
+    let name = name(random);
+    let kind = kind(random);
+    let lengths = lengths(kind, random);
+    tensor_of(made, &name, kind, &lengths, 8 * random.below(1000));
+}
+
+/// For every kind: one tensor of each of these lengths, which are whole blocks or almost.
+pub fn every_kind() -> Vec<Made> {
+    let mut all = vec![];
+    for kind in 0..40 {
+        for length in [0, 1, 31, 32, 33, 255, 256, 257, 768] {
+            let mut made = start(3, false, 1, 0);
+            tensor_of(&mut made, b"a", kind, &[length], 0);
+            all.push(made);
+        }
+    }
+    all
 }
 
 /// The keys that the questions look up, and keys that are almost those.
@@ -303,11 +362,11 @@ fn with_entries(
 
 /// Copies with one field at a boundary value, and copies with one byte changed.
 pub fn damaged(made: &Made, random: &mut Random) -> Vec<Vec<u8>> {
-    const BOUNDARIES: [u64; 18] =
-        [0, 1, 2, 3, 4, 5, 8, 9, 12, 13, 31, 39, 40, 41, (1 << 30) + 1, 1 << 32, 1 << 62, u64::MAX];
+    const SMALL: [u64; 17] = [0, 1, 2, 3, 4, 5, 8, 9, 12, 13, 31, 32, 39, 40, 41, 255, 256];
+    const LARGE: [u64; 4] = [(1 << 30) + 1, 1 << 32, 1 << 62, u64::MAX];
     let mut copies = vec![];
     for &(place, width) in &made.fields {
-        for value in BOUNDARIES {
+        for value in SMALL.into_iter().chain(LARGE) {
             if random.below(4) == 0 {
                 let mut bytes = made.bytes.clone();
                 bytes[place..place + width].copy_from_slice(&number(made.big, width, value));

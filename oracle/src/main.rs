@@ -10,6 +10,7 @@ mod original;
 mod writer;
 
 mod compare;
+mod domain;
 mod inputs;
 mod questions;
 mod sample;
@@ -19,7 +20,7 @@ mod writers;
 use original::{FILE_MAGIC_GGUF_LE, GGUF_VERSION_V1, GGUF_VERSION_V2, GGUF_VERSION_V3};
 
 use compare::Agreed;
-use inputs::{asked_header, damaged, every_answer, header, long_header, Made, Random};
+use inputs::{asked_header, damaged, every_answer, every_kind, header, long_header, Made, Random};
 use questions::Asked;
 
 fn main() {
@@ -49,6 +50,9 @@ fn compare_readers(headers: u64) -> Asked {
     let mut random = Random::new(0x9E37_79B9_7F4A_7C15);
     let mut agreed = Agreed::default();
     on_short_inputs(&mut agreed);
+    for made in every_kind() {
+        agreed.on(&made.bytes, 3);
+    }
     for _ in 0..headers {
         let made = header(&mut random);
         let cap = [3, 0, 1, 100][random.below(4) as usize];

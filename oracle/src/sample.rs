@@ -2,7 +2,8 @@
 //! original said of each, and nothing of this project's reader.
 
 use crate::compare::class;
-use crate::inputs::{damaged, header, Random};
+use crate::domain::Domain;
+use crate::inputs::{damaged, every_kind, header, Random};
 use crate::original::*;
 use serde_json::Value;
 use std::collections::{BTreeMap, BTreeSet};
@@ -104,23 +105,6 @@ fn answer(bytes: &[u8], path: &str) -> Option<(u64, Stored)> {
     Some((u64::from_le_bytes(stored.0[..8].try_into().unwrap()), stored))
 }
 
-/// Whether the counts, where they are there, are those of no more records than rows: the original
-/// has no rows.
-fn counts_fit(bytes: &[u8]) -> bool {
-    let big = bytes.starts_with(b"FUGG");
-    let number = |place: usize, width: usize| -> u64 {
-        let field = bytes.get(place..place + width).unwrap_or(&[]);
-        let digit = |value: u64, byte: &u8| value << 8 | u64::from(*byte);
-        if big {
-            field.iter().fold(0, digit)
-        } else {
-            field.iter().rev().fold(0, digit)
-        }
-    };
-    let size = if number(4, 4) == 1 { 4 } else { 8 };
-    number(8, size) <= ROWS && number(8 + size, size) <= ROWS
-}
-
 /// How many inputs of each answer the sample takes.
 fn wanted(class: u64) -> u64 {
     match class {
@@ -143,7 +127,8 @@ impl Sample {
     /// its answer. Texts that are not UTF-8 are outside, and show by the mark that the original
     /// puts in their place.
     fn offer(&mut self, bytes: &[u8]) {
-        if bytes.len() > LONGEST || !counts_fit(bytes) || self.seen.contains(bytes) {
+        let inside = Domain::of(bytes, ROWS) == Domain::Inside;
+        if bytes.len() > LONGEST || !inside || self.seen.contains(bytes) {
             return;
         }
         let Some((class, stored)) = answer(bytes, &self.path) else { return };
@@ -154,6 +139,24 @@ impl Sample {
             self.seen.insert(bytes.to_vec());
             self.cases.text(bytes);
             self.cases.text(&stored.0);
+        }
+    }
+
+    /// Every magic that stands for something, and its prefixes.
+    fn offer_magics(&mut self) {
+        for magic in [
+            FILE_MAGIC_GGML,
+            FILE_MAGIC_GGMF,
+            FILE_MAGIC_GGJT,
+            FILE_MAGIC_GGLA,
+            FILE_MAGIC_GGUF_LE,
+            FILE_MAGIC_GGUF_BE,
+            0,
+        ] {
+            for end in 0..=4 {
+                self.offer(&magic.to_le_bytes()[..end]);
+                self.offer(&magic.to_be_bytes()[..end]);
+            }
         }
     }
 
@@ -174,19 +177,9 @@ pub fn write(file: &str, scratch: &str) {
         seen: BTreeSet::new(),
         taken: BTreeMap::new(),
     };
-    for magic in [
-        FILE_MAGIC_GGML,
-        FILE_MAGIC_GGMF,
-        FILE_MAGIC_GGJT,
-        FILE_MAGIC_GGLA,
-        FILE_MAGIC_GGUF_LE,
-        FILE_MAGIC_GGUF_BE,
-        0,
-    ] {
-        for end in 0..=4 {
-            sample.offer(&magic.to_le_bytes()[..end]);
-            sample.offer(&magic.to_be_bytes()[..end]);
-        }
+    sample.offer_magics();
+    for made in every_kind() {
+        sample.offer(&made.bytes);
     }
     while !sample.enough() {
         let made = header(&mut random);

@@ -1,9 +1,10 @@
 //! One sheet through both writers, and what they wrote compared up to the start of the data.
 
-use crate::inputs::{Random, WIDTHS};
+use crate::domain::{block, is_written, measure, Domain, OTHER_BLOCKS};
+use crate::inputs::{whole_blocks, Random, WIDTHS};
 use crate::writer::{calculate_tensor_size, GGUFWriter, MetadataValue, TensorInfo};
 use std::collections::BTreeMap;
-use strutpebble::{write_header, ByteOrder, Place, Sheet, Type, Value};
+use strutpebble::{write_header, ByteOrder, Options, Place, Sheet, Type, Value};
 
 /// The bytes of output that this project's writer is lent, and the most that the original is let
 /// write after a header.
@@ -38,6 +39,20 @@ enum Said {
     One(u8, Item),
     Array(u8, Vec<Item>),
 }
+
+/// What this project's writer must do with a sheet, beside the original's.
+enum Wanted {
+    /// The same: the same bytes, or a refusal for the same reason.
+    Same,
+    /// This refusal, by intent.
+    Refusal(u64, &'static str),
+    /// A kind has another block here: the offsets after such a tensor are other ones, by intent.
+    OtherOffsets,
+}
+
+const ALIGNMENT: &str = "general.alignment";
+
+const MUCH_DATA: &str = "data above 64 KiB, which the original would write: not compared";
 
 /// What both writers are to write.
 pub struct Contents {
@@ -136,31 +151,49 @@ fn said(random: &mut Random) -> Said {
     Said::Array(item, (0..count).map(|_| Item::of(item, random)).collect())
 }
 
-fn tensor(random: &mut Random) -> TensorInfo {
-    const LARGE: [u64; 7] = [1 << 16, 1 << 32, 1 << 61, 1 << 62, (1 << 62) - 1, 1 << 63, u64::MAX];
-    if random.below(100) == 0 {
-        // Its end fits, and its padded end does not.
-        return TensorInfo { name: text(random), shape: vec![(1 << 62) - 1], dtype: 0 };
+/// A kind: mostly one that both writers have the same block for.
+fn kind(random: &mut Random) -> u32 {
+    const SAME: [u32; 25] =
+        [0, 0, 1, 1, 2, 3, 6, 7, 8, 10, 11, 12, 13, 14, 15, 16, 17, 18, 19, 21, 22, 23, 29, 34, 35];
+    match random.below(30) {
+        0 => random.below(45) as u32,
+        1..=3 => OTHER_BLOCKS[random.below(9) as usize],
+        _ => SAME[random.below(25) as usize],
     }
+}
+
+/// Lengths of few numbers, or of many. Mostly the first is whole blocks of the kind.
+fn shape(kind: u32, random: &mut Random) -> Vec<u64> {
+    // 7 << 51 blocks of kinds 9 and 39 are too many bytes by the original's table alone.
+    const LARGE: [u64; 8] =
+        [1 << 16, 1 << 32, 7 << 51, 1 << 61, 1 << 62, (1 << 62) - 1, 1 << 63, u64::MAX];
     let dimensions = if random.below(60) == 0 { 5 } else { random.below(5) };
     let is_large = random.below(8) == 0;
     let length = |random: &mut Random| {
         if is_large && random.below(2) == 0 {
-            LARGE[random.below(7) as usize]
+            LARGE[random.below(8) as usize]
         } else {
             random.below(7)
         }
     };
-    let kind = if random.below(30) == 0 {
-        random.below(45)
-    } else {
-        [0, 1, 2, 3, 6, 7, 8, 9, 10, 14, 20, 24, 27, 30, 34, 35, 39, 12][random.below(18) as usize]
-    };
-    TensorInfo {
-        name: text(random),
-        shape: (0..dimensions).map(|_| length(random)).collect(),
-        dtype: kind as u32,
+    let mut shape: Vec<u64> = (0..dimensions).map(|_| length(random)).collect();
+    let block = block(kind).unwrap_or(1);
+    if block > 1 && random.below(12) > 0 {
+        if shape.is_empty() {
+            shape.push(length(random));
+        }
+        shape[0] = whole_blocks(shape[0], block);
     }
+    shape
+}
+
+fn tensor(random: &mut Random) -> TensorInfo {
+    if random.below(100) == 0 {
+        // Its end fits, and its padded end does not.
+        return TensorInfo { name: text(random), shape: vec![(1 << 62) - 1], dtype: 0 };
+    }
+    let dtype = kind(random);
+    TensorInfo { name: text(random), shape: shape(dtype, random), dtype }
 }
 
 impl Contents {
@@ -185,24 +218,25 @@ impl Contents {
             } else {
                 Said::One([4, 10][random.below(2) as usize], Item::Scalar(alignment))
             };
-            entries.insert("general.alignment".into(), own);
+            entries.insert(ALIGNMENT.into(), own);
         }
         let tensors = (0..random.below(4)).map(|_| tensor(random)).collect();
         Contents { version, alignment, entries, tensors }
     }
 
     /// The smallest sheets on which the two differ by intent: an empty array of i8, another
-    /// alignment, five dimensions.
-    pub fn smallest() -> [Contents; 3] {
+    /// alignment, five dimensions, a part of a block, and a kind of another block. This last one
+    /// needs a second tensor, since a header has no sizes: they show in the offset of the next.
+    pub fn smallest() -> [Contents; 5] {
         let contents = |entries, tensors| Contents { version: 3, alignment: 32, entries, tensors };
+        let tensor = |dtype, shape| TensorInfo { name: String::new(), shape, dtype };
         let aligned = Said::One(4, Item::Scalar(64));
         [
             contents([(String::new(), Said::Array(1, vec![]))].into(), vec![]),
-            contents([("general.alignment".into(), aligned)].into(), vec![]),
-            contents(
-                [].into(),
-                vec![TensorInfo { name: String::new(), shape: vec![1; 5], dtype: 0 }],
-            ),
+            contents([(ALIGNMENT.into(), aligned)].into(), vec![]),
+            contents([].into(), vec![tensor(0, vec![1; 5])]),
+            contents([].into(), vec![tensor(2, vec![])]),
+            contents([].into(), vec![tensor(30, vec![]), tensor(30, vec![])]),
         ]
     }
 
@@ -268,6 +302,11 @@ impl Contents {
         })
     }
 
+    /// Whether the original would write more data than it is let.
+    fn has_much_data(&self) -> bool {
+        self.data().is_some_and(|data| data > MOST_DATA && data <= u128::from(u64::MAX))
+    }
+
     /// What the original wrote up to the start of the data, or the refusal that its error stands
     /// for.
     fn theirs(&self, path: &str) -> Result<Vec<u8>, u64> {
@@ -310,6 +349,7 @@ impl Contents {
         let Err(refusal) = answer else { return Ok(out) };
         let inside = match (refusal.number(), refusal.place()) {
             (31, Place::Sheet(byte)) => byte <= sheet.len() as u64,
+            (17, Place::Tensor(index)) => self.domain() == Domain::PartialBlock(index),
             (13..=15 | 35 | 36, Place::Tensor(index)) => index < self.tensors.len() as u64,
             (30 | 32..=34 | 37 | 38, place) => place == Place::Nowhere,
             _ => false,
@@ -320,6 +360,84 @@ impl Contents {
 
     fn has_five_dimensions(&self) -> bool {
         self.tensors.iter().any(|tensor| tensor.shape.len() > 4)
+    }
+
+    /// Whether both refuse the alignment: 32, or 33 where it must be added.
+    fn has_bad_alignment(&self) -> bool {
+        let is_added = !self.entries.contains_key(ALIGNMENT);
+        let is_too_large = is_added && self.alignment > u64::from(u32::MAX);
+        self.alignment == 0 || !self.alignment.is_multiple_of(8) || is_too_large
+    }
+
+    /// Whether the sheet says an alignment by which a reader goes, and that is not the writer's.
+    fn has_other_alignment(&self) -> bool {
+        let Some(said) = self.entries.get(ALIGNMENT) else { return false };
+        let number = match said {
+            Said::One(4, Item::Scalar(bits)) => u64::from(*bits as u32),
+            Said::One(5, Item::Scalar(bits)) => u64::try_from(*bits as i32).unwrap_or(0),
+            Said::One(10, Item::Scalar(bits)) => *bits,
+            _ => 0,
+        };
+        let is_taken = number > 0 && number.is_multiple_of(8);
+        self.alignment != if is_taken { number } else { 32 }
+    }
+
+    /// Where the tensors stand, which are the last that a writer looks at.
+    fn domain(&self) -> Domain {
+        let mut domain = Domain::Inside;
+        // Wherever a tensor is refused, what was there so far decides.
+        let _ = self.lay_out(&mut domain);
+        domain
+    }
+
+    /// The offsets of the tensors by this project's table; nothing where one is refused.
+    fn lay_out(&self, domain: &mut Domain) -> Option<Vec<u64>> {
+        let (mut end, mut total, mut offsets) = (0u64, 0u64, vec![]);
+        for (index, TensorInfo { shape, dtype, .. }) in self.tensors.iter().enumerate() {
+            if !is_written(*dtype) {
+                return None;
+            }
+            domain.come_to(*dtype, shape, index as u64)?;
+            let (numbers, size) = measure(*dtype, shape)?;
+            total = total.checked_add(numbers)?;
+            offsets.push(end);
+            end = end.checked_add(size)?.checked_next_multiple_of(self.alignment)?;
+        }
+        Some(offsets)
+    }
+
+    /// What this project's writer must do, by the contents alone, in the order in which it refuses.
+    fn wanted(&self) -> Wanted {
+        if !(1..=3).contains(&self.version) {
+            return Wanted::Same;
+        }
+        if self.has_five_dimensions() {
+            return Wanted::Refusal(31, "five dimensions: here refusal 31");
+        }
+        if self.has_bad_alignment() {
+            return Wanted::Same;
+        }
+        if self.has_other_alignment() {
+            return Wanted::Refusal(34, "another alignment in the sheet: here refusal 34");
+        }
+        match self.domain() {
+            Domain::PartialBlock(_) => Wanted::Refusal(17, "partial blocks: here refusal 17"),
+            Domain::OtherBlock(_) => Wanted::OtherOffsets,
+            _ => Wanted::Same,
+        }
+    }
+
+    /// A header that the original wrote, with the offsets of this project's table.
+    fn laid_out_anew(&self, mut header: Vec<u8>) -> Vec<u8> {
+        let mut rows = vec![[0; 10]; self.tensors.len()];
+        Options::new().read_rows(&header, &mut vec![[0; 7]; 10], &mut rows).expect("a header");
+        let offsets = self.lay_out(&mut Domain::Inside).expect("offsets of what was written");
+        for (row, offset) in rows.iter().zip(offsets) {
+            // Behind the name come the dimensions, the lengths and the kind.
+            let place = (row[0] + row[1] + 4 + 8 * row[3] + 4) as usize;
+            header[place..place + 8].copy_from_slice(&offset.to_le_bytes());
+        }
+        header
     }
 
     fn has_typed_empty_array(&self) -> bool {
@@ -351,29 +469,47 @@ fn class(error: anyhow::Error) -> u64 {
 #[derive(Default)]
 pub struct Agreed {
     by_number: BTreeMap<u64, u64>,
-    by_intent: BTreeMap<&'static str, u64>,
+    by_intent: BTreeMap<String, u64>,
 }
 
 impl Agreed {
     /// Gives one sheet to both. Panics where they differ otherwise than by intent.
     pub fn on(&mut self, contents: &Contents, path: &str) {
-        let is_refused = contents.data().is_none_or(|data| data > u128::from(u64::MAX));
-        if !is_refused && contents.data().is_some_and(|data| data > MOST_DATA) {
-            return self
-                .intended("data above 64 KiB, which the original would write: not compared");
-        }
         let sheet = contents.sheet(false);
         assert_eq!(contents.built().bytes().as_ref(), Ok(&sheet), "the crate's sheet");
         let ours = contents.ours(&sheet);
-        let theirs = contents.theirs(path);
-        if contents.has_five_dimensions() && (1..=3).contains(&contents.version) {
-            assert_eq!(ours, Err(31), "{sheet:?}");
-            return self.intended("five dimensions: here refusal 31");
+        let theirs = (!contents.has_much_data()).then(|| contents.theirs(path));
+        match (contents.wanted(), theirs) {
+            (Wanted::Refusal(number, what), theirs) => {
+                assert_eq!(ours, Err(number), "{sheet:?}");
+                self.on_refusal(number, what, theirs);
+            }
+            (Wanted::OtherOffsets, theirs) => self.on_other_offsets(contents, theirs),
+            (Wanted::Same, Some(theirs)) => self.on_same(contents, ours, theirs, &sheet),
+            (Wanted::Same, None) => self.intended(MUCH_DATA),
         }
-        if ours == Err(34) {
-            assert!(matches!(theirs, Ok(_) | Err(13..=14 | 35..=36)), "{sheet:?}");
-            return self.intended("another alignment in the sheet: here refusal 34");
-        }
+    }
+
+    /// Refused here, by intent. The original has no such reason, but may have a later one. Those of
+    /// the version and the alignment come first, but for 31, which comes before the alignment's.
+    fn on_refusal(&mut self, number: u64, what: &str, theirs: Option<Result<Vec<u8>, u64>>) {
+        let there = match theirs {
+            Some(Err(30..=33)) if number != 31 => panic!("{what}, and the original was before it"),
+            Some(Ok(_)) => "the original writes it",
+            Some(Err(_)) => "the original refuses it for another reason",
+            None => "the original would write data above 64 KiB",
+        };
+        self.intended(&format!("{what}, {there}"));
+    }
+
+    /// Both must do the same, but for the item type of an empty array.
+    fn on_same(
+        &mut self,
+        contents: &Contents,
+        ours: Result<Vec<u8>, u64>,
+        theirs: Result<Vec<u8>, u64>,
+        sheet: &[u8],
+    ) {
         if contents.has_typed_empty_array() && theirs.is_ok() {
             assert!(ours.is_ok() && ours != theirs, "{sheet:?}");
             assert_eq!(contents.ours(&contents.sheet(true)), theirs, "{sheet:?}");
@@ -386,8 +522,35 @@ impl Agreed {
         *self.by_number.entry(ours.err().unwrap_or(0)).or_default() += 1;
     }
 
-    fn intended(&mut self, what: &'static str) {
-        *self.by_intent.entry(what).or_default() += 1;
+    /// A kind has another block here. What differs beside offsets follows from the sizes: blocks of
+    /// fewer numbers make them larger here, blocks of more bytes make the original refuse 14. An
+    /// empty array is given the item type that the original writes.
+    fn on_other_offsets(&mut self, contents: &Contents, theirs: Option<Result<Vec<u8>, u64>>) {
+        let sheet = contents.sheet(true);
+        let ours = contents.ours(&sheet);
+        assert_eq!(ours.is_ok(), contents.lay_out(&mut Domain::Inside).is_some(), "{sheet:?}");
+        let Some(theirs) = theirs else { return self.intended(MUCH_DATA) };
+        self.intended(match (ours, theirs) {
+            (Ok(ours), Ok(theirs)) => {
+                let is_same = ours == theirs;
+                assert_eq!(ours, contents.laid_out_anew(theirs), "{sheet:?}");
+                if is_same {
+                    "another block: same bytes, and the offsets are the table's"
+                } else {
+                    "another block: only offsets differ, and those are the table's"
+                }
+            }
+            (Err(number), Err(class)) if number == class => "another block: refused, same class",
+            (Ok(_) | Err(13 | 15 | 35 | 36), Err(14)) => {
+                "another block: the original refuses 14 for more bytes of a block"
+            }
+            (Err(15 | 36), Err(_)) => "another block: refused for the larger sizes here",
+            (ours, theirs) => panic!("{ours:?} here, and the original {theirs:?}: {sheet:?}"),
+        });
+    }
+
+    fn intended(&mut self, what: &str) {
+        *self.by_intent.entry(what.into()).or_default() += 1;
     }
 
     pub fn print(&self) {

@@ -83,6 +83,68 @@ static void ceilings_hold(void) {
     CHECK(sp_read(file, 57, 3, 39, 3, NULL, 0, NULL, 0, answer) == SP_TOO_FEW_ROWS);
 }
 
+/* Reads the header of the sheet with another kind, at 45 of it, and another length, at 37. */
+static uint64_t read_other(uint8_t kind, uint16_t length, sp_tensor *row, uint64_t *answer) {
+    uint8_t file[64];
+    CHECK(sp_write(sheet, sizeof sheet, 3, 0, 32, file, sizeof file, answer) == 0);
+    file[45] = kind;
+    file[37] = length & 255;
+    file[38] = length >> 8;
+    return sp_read(file, 57, 3, 39, 3, NULL, 0, row, 1, answer);
+}
+
+static void sizes_are_those_of_whole_blocks(void) {
+    uint64_t answer[SP_ANSWER_WORDS];
+    sp_tensor row;
+    CHECK(read_other(30, 256, &row, answer) == 0);
+    CHECK(row.kind == 30 && row.lengths[0] == 256 && row.size == 512);
+    /* Half of the file, and all of it but a byte. */
+    CHECK(sp_check_ranges(&row, 1, 64, 288, answer) == SP_PAST_THE_FILE && answer[0] == 0);
+    CHECK(sp_check_ranges(&row, 1, 64, 575, answer) == SP_PAST_THE_FILE && answer[0] == 0);
+    CHECK(sp_check_ranges(&row, 1, 64, 576, answer) == 0);
+    CHECK(read_other(39, 32, &row, answer) == 0 && row.size == 17);
+    CHECK(read_other(9, 32, &row, answer) == 0 && row.size == 36);
+    CHECK(read_other(20, 32, &row, answer) == 0 && row.size == 18);
+    CHECK(read_other(2, 0, &row, answer) == 0 && row.size == 0);
+    /* A kind whose data takes no bytes need not have whole blocks. */
+    CHECK(read_other(31, 33, &row, answer) == 0 && row.size == 0 && row.lengths[0] == 33);
+}
+
+static void a_partial_block_is_not_read(void) {
+    uint64_t answer[SP_ANSWER_WORDS];
+    sp_tensor row, before;
+    memset(&row, 7, sizeof row);
+    before = row;
+    CHECK(read_other(2, 33, &row, answer) == SP_PARTIAL_BLOCK && answer[SP_ANSWER_PLACE] == 24);
+    CHECK(read_other(39, 31, &row, answer) == SP_PARTIAL_BLOCK && answer[SP_ANSWER_PLACE] == 24);
+    CHECK(read_other(12, 32, &row, answer) == SP_PARTIAL_BLOCK && answer[SP_ANSWER_PLACE] == 24);
+    CHECK(memcmp(&row, &before, sizeof row) == 0);
+    for (size_t i = 1; i < SP_ANSWER_WORDS; i++)
+        CHECK(answer[i] == 0);
+}
+
+/* The sheet with its tensor twice, and the second time with another kind and length. */
+static void a_partial_block_is_not_written(void) {
+    uint64_t answer[SP_ANSWER_WORDS];
+    uint8_t twice[2 * sizeof sheet - 1], out[128], before[128];
+    memcpy(twice, sheet, sizeof sheet);
+    memcpy(twice + sizeof sheet, sheet + 1, sizeof sheet - 1);
+    uint8_t *kind = &twice[sizeof twice - 10], *length = &twice[sizeof twice - 1];
+    memset(out, 7, sizeof out);
+    memcpy(before, out, sizeof out);
+    *kind = 2;
+    *length = 33;
+    CHECK(sp_write(twice, sizeof twice, 3, 0, 32, out, sizeof out, answer) == SP_PARTIAL_BLOCK);
+    CHECK(answer[SP_ANSWER_TENSOR] == 1 && memcmp(out, before, sizeof out) == 0);
+    *kind = 31;
+    CHECK(sp_write(twice, sizeof twice, 3, 0, 32, out, sizeof out, answer) == SP_KIND_NOT_WRITTEN);
+    CHECK(answer[SP_ANSWER_TENSOR] == 1 && memcmp(out, before, sizeof out) == 0);
+    *kind = 39;
+    *length = 32;
+    CHECK(sp_write(twice, sizeof twice, 3, 0, 32, out, sizeof out, answer) == 0);
+    CHECK(answer[SP_WRITTEN_END] == 90 && answer[SP_WRITTEN_DATA_START] == 96);
+}
+
 /* The header of the sheet ends at 57. Fewer bytes are cut off; with that many, or more, the answer
  * and the row are the same, whatever the bytes after it are. */
 static void more_bytes_change_nothing(void) {
@@ -107,9 +169,9 @@ static void more_bytes_change_nothing(void) {
 
 /* Every number has words of its own, and what is no number has others. */
 static void reasons(void) {
-    static const uint64_t numbers[] = {0,  1,  2,  3,  4,  5,  6,  7,  8,  9,   10,  11, 12,
-                                       13, 14, 15, 18, 20, 30, 31, 32, 33, 34,  35,  36, 37,
-                                       38, 100, 101, 102};
+    static const uint64_t numbers[] = {0,  1,  2,   3,   4,   5,  6,  7,  8,  9,  10, 11, 12,
+                                       13, 14, 15,  17,  18,  20, 30, 31, 32, 33, 34, 35, 36,
+                                       37, 38, 100, 101, 102};
     size_t count = sizeof numbers / sizeof *numbers;
     for (size_t i = 0; i < count; i++) {
         CHECK(strcmp(sp_reason(numbers[i]), sp_reason(999)) != 0);
@@ -133,6 +195,9 @@ int main(void) {
     an_entry_is_a_struct();
     null_is_no_bytes();
     ceilings_hold();
+    sizes_are_those_of_whole_blocks();
+    a_partial_block_is_not_read();
+    a_partial_block_is_not_written();
     more_bytes_change_nothing();
     reasons();
     versions_agree();

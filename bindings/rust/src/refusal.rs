@@ -40,6 +40,8 @@ pub enum Reason {
     SizeOverflow,
     /// 15: the products of the tensors so far come to more than 2^64 - 1.
     TotalOverflow,
+    /// 17: a tensor's first length (1 where it has no dimensions) is not whole blocks of its kind.
+    PartialBlock,
     /// 18: the data would start above 2^64 - 1.
     DataStartOverflow,
     /// 20: the data of a tensor ends after the end of the file.
@@ -66,9 +68,9 @@ pub enum Reason {
     Other(u64),
 }
 
-/// Each reason with its number and its words. 13, 14 and 15 are both the reader's and the writer's,
-/// so their words fit a file that is read and a file that is to be written.
-const REASONS: [(Reason, u64, &str); 26] = [
+/// Each reason with its number and its words. 13, 14, 15 and 17 are both the reader's and the
+/// writer's, so their words fit a file that is read and a file that is to be written.
+const REASONS: [(Reason, u64, &str); 27] = [
     (Reason::CutOff, 1, "the header does not end inside these bytes: fetch more"),
     (Reason::OlderFormat, 2, "the file has a format that came before GGUF"),
     (Reason::NotGguf, 3, "this is not a GGUF file"),
@@ -84,6 +86,7 @@ const REASONS: [(Reason, u64, &str); 26] = [
     (Reason::ProductOverflow, 13, "the product of the tensor's lengths is above 2^64 - 1"),
     (Reason::SizeOverflow, 14, "the tensor's size is above 2^64 - 1 before its division"),
     (Reason::TotalOverflow, 15, "the tensors up to this one have more than 2^64 - 1 numbers"),
+    (Reason::PartialBlock, 17, "the tensor's first length is not whole blocks of its kind"),
     (Reason::DataStartOverflow, 18, "the data would start above 2^64 - 1"),
     (Reason::PastTheFile, 20, "the tensor's data ends after the end of the file"),
     (Reason::VersionNotWritten, 30, "the version to write is not 1, 2 or 3"),
@@ -159,7 +162,7 @@ impl fmt::Display for Place {
 /// | the reader and every question about a prefix | [`Place::Prefix`] |
 /// | the range check | [`Place::Tensor`] |
 /// | the writer, 31 | [`Place::Sheet`] |
-/// | the writer, 13, 14, 15, 35 and 36 | [`Place::Tensor`] |
+/// | the writer, 13, 14, 15, 17, 35 and 36 | [`Place::Tensor`] |
 /// | the writer, any other | [`Place::Nowhere`] |
 ///
 /// ```
@@ -195,7 +198,7 @@ impl Refusal {
     pub(crate) fn of_writer(number: u64, place: u64) -> Refusal {
         let place = match number {
             31 => Place::Sheet(place),
-            13..=15 | 35 | 36 => Place::Tensor(place),
+            13..=15 | 17 | 35 | 36 => Place::Tensor(place),
             _ => Place::Nowhere,
         };
         Refusal { reason: Reason::of(number), place }
@@ -243,7 +246,7 @@ mod tests {
 
     #[test]
     fn every_number_has_its_own_reason_and_words() {
-        let numbers = (1..=15).chain([18, 20]).chain(30..=38);
+        let numbers = (1..=15).chain([17, 18, 20]).chain(30..=38);
         assert!(numbers.eq(REASONS.iter().map(|(_, number, _)| *number)));
         let words: BTreeSet<_> = REASONS.iter().map(|(reason, _, _)| reason.to_string()).collect();
         assert_eq!(words.len(), REASONS.len());
@@ -255,7 +258,7 @@ mod tests {
 
     #[test]
     fn a_number_that_is_not_known() {
-        for number in [0, 16, 17, 19, 21, 29, 39, 100, u64::MAX] {
+        for number in [0, 16, 19, 21, 29, 39, 100, u64::MAX] {
             let refusal = Refusal::of_reader(number, 7);
             assert_eq!((refusal.reason(), refusal.number()), (Reason::Other(number), number));
             assert!(refusal.to_string().contains("does not know"));
@@ -267,7 +270,7 @@ mod tests {
         for (reason, number, words) in REASONS {
             let wanted = match number {
                 31 => (Place::Sheet(5), " at byte 5 of the sheet"),
-                13 | 14 | 15 | 35 | 36 => (Place::Tensor(5), " at tensor 5"),
+                13 | 14 | 15 | 17 | 35 | 36 => (Place::Tensor(5), " at tensor 5"),
                 _ => (Place::Nowhere, ""),
             };
             let refusal = Refusal::of_writer(number, 5);

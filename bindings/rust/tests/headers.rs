@@ -3,7 +3,7 @@
 
 mod made;
 
-use made::{a_and_b, made};
+use made::{a_and_b, made, BLOCKS, NO_BYTES};
 use strutpebble::{
     measure, read, ByteOrder, Header, Kind, Options, Place, RangeError, Reason, Summary,
 };
@@ -166,21 +166,63 @@ fn the_last_byte_that_a_file_can_have() {
 }
 
 #[test]
+fn a_cut_file_of_bf16() {
+    // 256 numbers of 2 bytes, from 64 on.
+    let file = made(3, false, 1, 0).tensor("t", &[256], 30, 0).bytes.clone();
+    let header = read(&file).unwrap();
+    assert_eq!((header.tensor(0).unwrap().kind(), header.range_of(0)), (Kind::BF16, Ok(64..576)));
+    assert_eq!(header.check_ranges(576), Ok(()));
+    for file_length in [64, 66, 576 / 2, 64 + 512 / 2, 575] {
+        assert_eq!(first_outside(&header, file_length), Place::Tensor(0));
+    }
+}
+
+/// The size of the tensor of a header that has only that one.
+fn size_of(kind: u64, lengths: &[u64]) -> u64 {
+    let file = made(3, false, 1, 0).tensor("t", lengths, kind, 0).bytes.clone();
+    match read(&file) {
+        Ok(header) => header.tensor(0).unwrap().size(),
+        Err(refusal) => panic!("kind {kind}, lengths {lengths:?}: {refusal}"),
+    }
+}
+
+#[test]
 fn sizes_of_known_shapes() {
     for (kind, lengths, size) in [
-        (2, &[33][..], 18),
+        (2, &[32][..], 18),
+        (2, &[96, 3], 162),
+        (9, &[32], 36),
+        (20, &[32], 18),
+        (39, &[32], 17),
+        (30, &[256], 512),
+        (30, &[3, 5], 30),
         (0, &[], 4),
+        (24, &[], 1),
         (0, &[(1 << 62) - 1], u64::MAX - 3),
+        (24, &[u64::MAX], u64::MAX),
         (0, &[0, 1 << 32, 1 << 32], 0),
+        (2, &[0, 33], 0),
         (31, &[64], 0),
-        (39, &[256], 273),
+        (31, &[33], 0),
+        (31, &[], 0),
     ] {
-        let file = made(3, false, 1, 0).tensor("t", lengths, kind, 0).bytes.clone();
-        assert_eq!(
-            read(&file).unwrap().tensor(0).unwrap().size(),
-            size,
-            "kind {kind}, lengths {lengths:?}"
-        );
+        assert_eq!(size_of(kind, lengths), size, "kind {kind}, lengths {lengths:?}");
+    }
+}
+
+#[test]
+fn sizes_of_whole_blocks() {
+    for (kind, numbers, bytes) in BLOCKS {
+        for blocks in [0, 1, 2, 3, 1000, 1 << 40] {
+            assert_eq!(size_of(kind, &[blocks * numbers]), blocks * bytes, "kind {kind}");
+        }
+        assert_eq!(size_of(kind, &[3 * numbers, 1, 5, 7]), 105 * bytes, "kind {kind}");
+    }
+    // What takes no bytes need not be whole blocks.
+    for kind in NO_BYTES {
+        for length in [0, 1, 33, 256, u64::MAX] {
+            assert_eq!(size_of(kind, &[length]), 0, "kind {kind}");
+        }
     }
 }
 

@@ -6,7 +6,7 @@
 
 mod made;
 
-use made::{a_and_b, made, number_and_byte};
+use made::{a_and_b, made, number_and_byte, BLOCKS, NO_BYTES};
 use strutpebble::{
     file_type, find, find_string, measure, model_family, read, Options, Reason, StringError,
 };
@@ -90,13 +90,17 @@ fn too_few_rows_6() {
 
 #[test]
 fn a_refusal_leaves_the_rows() {
-    // A good entry, and a tensor of a kind that there is not.
-    let file = made(3, false, 1, 1).key("k", 0).number(1, 5).tensor("t", &[], 40, 0).bytes.clone();
-    let mut entries = [[7; 7]; 3];
-    let mut tensors = [[7; 10]; 3];
-    let refusal = Options::new().read_rows(&file, &mut entries, &mut tensors).unwrap_err();
-    assert_eq!(number_and_byte(refusal), (11, 51));
-    assert_eq!((entries, tensors), ([[7; 7]; 3], [[7; 10]; 3]));
+    // A good entry, and a tensor of a kind that there is not, or of a part of a block.
+    for (kind, wanted) in [(40, (11, 51)), (2, (17, 38))] {
+        let mut file = made(3, false, 1, 1);
+        file.key("k", 0).number(1, 5).tensor("t", &[], kind, 0);
+        let mut entries = [[7; 7]; 3];
+        let mut tensors = [[7; 10]; 3];
+        let refusal =
+            Options::new().read_rows(&file.bytes, &mut entries, &mut tensors).unwrap_err();
+        assert_eq!(number_and_byte(refusal), wanted);
+        assert_eq!((entries, tensors), ([[7; 7]; 3], [[7; 10]; 3]));
+    }
 }
 
 #[test]
@@ -132,7 +136,7 @@ fn kinds_11_and_12() {
     for kind in [4, 5, 40, 41, u32::MAX.into()] {
         assert_eq!(refused(&made(3, false, 1, 0).tensor("t", &[1], kind, 0).bytes), (11, 45));
     }
-    let file = made(3, false, 1, 0).tensor("t", &[1], 39, 0).bytes.clone();
+    let file = made(3, false, 1, 0).tensor("t", &[32], 39, 0).bytes.clone();
     assert_eq!(number_and_byte(Options::new().highest_kind(38).read(&file).unwrap_err()), (12, 45));
     assert!(Options::new().highest_kind(39).read(&file).is_ok());
     // No ceiling makes a kind of 40.
@@ -150,8 +154,8 @@ fn products_and_sizes_13_14_15() {
         (13, 24)
     );
     assert_eq!(refused(&made(3, false, 1, 0).tensor("t", &[1 << 62], 0, 0).bytes), (14, 24));
-    // Kind 24 has one byte for each of its numbers before the division: only the total is too
-    // great, at the second tensor.
+    // Kind 24 has one byte for each of its numbers: only the total is too great, at the second
+    // tensor.
     let half = 1 << 63;
     assert_eq!(
         refused(
@@ -163,6 +167,59 @@ fn products_and_sizes_13_14_15() {
         &made(3, false, 2, 0).tensor("s", &[half], 24, 0).tensor("t", &[half - 1], 24, 0).bytes
     )
     .is_ok());
+}
+
+/// The refusal of a header whose one tensor has this kind and these lengths.
+fn refused_tensor(kind: u64, lengths: &[u64]) -> (u64, u64) {
+    refused(&made(3, false, 1, 0).tensor("t", lengths, kind, 0).bytes)
+}
+
+#[test]
+fn partial_blocks_17() {
+    for (kind, numbers, _) in BLOCKS.into_iter().filter(|(_, numbers, _)| *numbers > 1) {
+        for length in [1, numbers - 1, numbers + 1, u64::MAX] {
+            assert_eq!(refused_tensor(kind, &[length]), (17, 24), "kind {kind}, length {length}");
+        }
+        // The first length decides, also where the product is whole blocks, or 0.
+        assert_eq!(refused_tensor(kind, &[numbers / 2, 2]), (17, 24), "kind {kind}");
+        assert_eq!(refused_tensor(kind, &[1, 0]), (17, 24), "kind {kind}");
+        // Without dimensions there is one number.
+        assert_eq!(refused_tensor(kind, &[]), (17, 24), "kind {kind}");
+    }
+    let refusal = read(&made(3, false, 1, 0).tensor("t", &[33], 2, 0).bytes).unwrap_err();
+    assert_eq!(refusal.reason(), Reason::PartialBlock);
+    let words = "refused 17 at byte 24: the tensor's first length is not whole blocks of its kind";
+    assert_eq!((refusal.to_string().as_str(), refusal.wants_more()), (words, false));
+    // In version 1 the first record starts at 16. The second tensor starts 29 bytes on.
+    let mut file = made(1, true, 2, 0);
+    file.tensor("s", &[64], 2, 0).tensor("t", &[65], 2, 64);
+    assert_eq!(refused(&file.bytes), (17, 45));
+}
+
+#[test]
+fn a_partial_block_beside_other_reasons() {
+    // After 11 and 12.
+    assert_eq!(refused_tensor(40, &[33]), (11, 45));
+    let file = made(3, false, 1, 0).tensor("t", &[33], 2, 0).bytes.clone();
+    assert_eq!(number_and_byte(Options::new().highest_kind(1).read(&file).unwrap_err()), (12, 45));
+    // Before 13, 14 and 15.
+    assert_eq!(refused_tensor(2, &[33, 1 << 32, 1 << 32]), (17, 24));
+    assert_eq!(refused_tensor(2, &[32, 1 << 32, 1 << 32]), (13, 24));
+    assert_eq!(refused_tensor(2, &[(1 << 63) + 1]), (17, 24));
+    assert_eq!(refused_tensor(2, &[1 << 63]), (14, 24));
+    for (length, wanted) in [(33, 17), (32, 15)] {
+        let mut file = made(3, false, 2, 0);
+        file.tensor("s", &[u64::MAX], 24, 0).tensor("t", &[length], 2, 0);
+        assert_eq!(refused(&file.bytes), (wanted, 57));
+    }
+    // A kind without bytes is tested for the others alone.
+    for kind in NO_BYTES {
+        assert_eq!(refused_tensor(kind, &[33, 1 << 32, 1 << 32]), (13, 24));
+    }
+    // The record has to be there, and the next one need not be.
+    let file = made(3, false, 2, 0).tensor("t", &[33], 2, 0).bytes.clone();
+    assert_eq!(refused(&file[..56]), (1, 49));
+    assert_eq!(refused(&file), (17, 24));
 }
 
 #[test]

@@ -3,7 +3,7 @@
 
 mod made;
 
-use made::{a_and_b, made};
+use made::{a_and_b, made, BLOCKS, NO_BYTES};
 use std::error::Error;
 use strutpebble::{
     read, write_header, ByteOrder, Kind, Place, Reason, Refusal, Sheet, SheetError, Type, Value,
@@ -146,7 +146,7 @@ fn refusals_of_sheets() {
     assert_eq!(refused(&product), (13, Place::Tensor(0)));
     let size = two_tensors().tensor("t", 0, &[1 << 62]);
     assert_eq!(refused(&size), (14, Place::Tensor(2)));
-    let total = Sheet::new().tensor("t", Kind::I8, &[u64::MAX]).tensor("u", Kind::I8, &[1]);
+    let total = Sheet::new().tensor("t", Kind::I8, &[1 << 63]).tensor("u", Kind::I8, &[1 << 63]);
     assert_eq!(refused(&total), (15, Place::Tensor(1)));
     let offset = Sheet::new().tensor("t", 0, &[(1 << 62) - 1]);
     assert_eq!(refused(&offset), (36, Place::Tensor(0)));
@@ -154,6 +154,69 @@ fn refusals_of_sheets() {
     assert_eq!(error.to_string(), "the header was not written");
     let words = "refused 14 at tensor 2: the tensor's size is above 2^64 - 1 before its division";
     assert_eq!(error.source().unwrap().to_string(), words);
+}
+
+#[test]
+fn partial_blocks() {
+    let second = Sheet::new().tensor("a", Kind::Q4_0, &[32]).tensor("b", Kind::Q4_0, &[33]);
+    assert_eq!(refused(&second), (17, Place::Tensor(1)));
+    let Err(error) = second.to_vec() else { panic!("not refused") };
+    let words = "refused 17 at tensor 1: the tensor's first length is not whole blocks of its kind";
+    assert_eq!(error.source().unwrap().to_string(), words);
+    for (kind, numbers, _) in BLOCKS.into_iter().filter(|(_, numbers, _)| *numbers > 1) {
+        for lengths in [&[numbers + 1][..], &[numbers / 2, 2], &[1, 0], &[]] {
+            let sheet = two_tensors().tensor("t", kind as u32, lengths);
+            assert_eq!(refused(&sheet), (17, Place::Tensor(2)), "kind {kind}, lengths {lengths:?}");
+        }
+    }
+}
+
+#[test]
+fn a_partial_block_beside_other_reasons() {
+    let tensor = |kind: u32, lengths: &[u64]| refused(&Sheet::new().tensor("t", kind, lengths));
+    // After 35.
+    for kind in NO_BYTES {
+        assert_eq!(tensor(kind as u32, &[33]), (35, Place::Tensor(0)));
+    }
+    // Before 13, 14 and 15.
+    assert_eq!(tensor(2, &[33, 1 << 32, 1 << 32]), (17, Place::Tensor(0)));
+    assert_eq!(tensor(2, &[32, 1 << 32, 1 << 32]), (13, Place::Tensor(0)));
+    assert_eq!(tensor(2, &[(1 << 63) + 1]), (17, Place::Tensor(0)));
+    assert_eq!(tensor(2, &[1 << 63]), (14, Place::Tensor(0)));
+    for (length, wanted) in [(33, 17), (32, 15)] {
+        let full = Sheet::new().tensor("s", Kind::I8, &[u64::MAX - 31]);
+        assert_eq!(refused(&full.tensor("t", 2, &[length])), (wanted, Place::Tensor(1)));
+    }
+    // The first tensor that is refused decides.
+    let sheet = Sheet::new().tensor("s", 0, &[1 << 62]).tensor("t", 2, &[33]);
+    assert_eq!(refused(&sheet), (14, Place::Tensor(0)));
+    // After 31 and 32.
+    let sheet = Sheet::new().tensor("s", 2, &[33]).bytes().unwrap();
+    assert_eq!(refused_bytes(&[&sheet[..], &[0]].concat(), 3, 32), (31, Place::Sheet(24)));
+    assert_eq!(refused_bytes(&sheet, 3, 12), (32, Place::Nowhere));
+}
+
+/// The offsets and sizes of the tensors of a sheet, written and read back.
+fn laid_out(sheet: &Sheet, alignment: u64) -> Vec<(u64, u64)> {
+    let file = WriteOptions::new().alignment(alignment).to_vec(sheet).unwrap();
+    read(&file).unwrap().tensors().map(|tensor| (tensor.offset(), tensor.size())).collect()
+}
+
+#[test]
+fn tensors_of_whole_blocks() {
+    let sheet = Sheet::new()
+        .tensor("a", Kind::BF16, &[256])
+        .tensor("b", Kind::MXFP4, &[32])
+        .tensor("c", Kind::Q8_1, &[32])
+        .tensor("d", Kind::Q4_0, &[0])
+        .tensor("e", Kind::IQ4_NL, &[32]);
+    assert_eq!(laid_out(&sheet, 32), [(0, 512), (512, 17), (544, 36), (608, 0), (608, 18)]);
+    assert_eq!(laid_out(&sheet, 8), [(0, 512), (512, 17), (536, 36), (576, 0), (576, 18)]);
+    let each = BLOCKS.into_iter().fold(Sheet::new(), |sheet, (kind, numbers, _)| {
+        sheet.tensor("t", kind as u32, &[2 * numbers, 3])
+    });
+    let sizes = laid_out(&each, 32).into_iter().map(|(_, size)| size);
+    assert!(sizes.eq(BLOCKS.map(|(_, _, bytes)| 6 * bytes)));
 }
 
 #[test]

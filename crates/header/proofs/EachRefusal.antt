@@ -97,3 +97,8 @@ gives-14 = refl
 pub gives-15 : reads full (file 2 0 (long 128 24 ++ long 128 24)) ≡ refused 15 44
 unfolding run under header start magic version counts size number here _>>=_ each tensor text textLooking shape lengthsOf lengthAt kindAndOffset blockOf
 gives-15 = refl
+
+-- a tensor of kind 2, in blocks of 32, with no name and no dimensions
+pub gives-17 : reads full (file 1 0 (0 ∷ 0 ∷ 0 ∷ 0 ∷ 0 ∷ 0 ∷ 0 ∷ 0 ∷ 2 ∷ 0 ∷ 0 ∷ 0 ∷ 0 ∷ 0 ∷ 0 ∷ 0 ∷ 0 ∷ 0 ∷ 0 ∷ 0 ∷ [])) ≡ refused 17 16
+unfolding run under header start magic version counts size number here _>>=_ each tensor text textLooking shape lengthsOf lengthAt kindAndOffset blockOf
+gives-17 = refl

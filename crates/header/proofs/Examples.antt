@@ -187,8 +187,8 @@ fits-two = record {
   tensorRoom = omega arith;
   entries = tt;
   tensors = (
-    record { name = omega arith; shape = fits-shape 5 (omega arith); kind = omega arith; offset = omega arith; known = refl; products = refl; size = refl; measured = refl; total = omega arith },
-    (record { name = omega arith; shape = fits-shape 3 (omega arith); kind = omega arith; offset = omega arith; known = refl; products = refl; size = refl; measured = refl; total = omega arith }, tt),
+    record { name = omega arith; shape = fits-shape 5 (omega arith); kind = omega arith; offset = omega arith; known = refl; whole = refl; products = refl; size = refl; measured = refl; total = omega arith },
+    (record { name = omega arith; shape = fits-shape 3 (omega arith); kind = omega arith; offset = omega arith; known = refl; whole = refl; products = refl; size = refl; measured = refl; total = omega arith }, tt),
   );
   start = omega arith;
 }

@@ -27,7 +27,7 @@ use Rattle.header.specs.Format.{latest, header}
 
 -- those of a header's parts: all but 6, which asks for rows, and 18, the last test's
 abbrev pub partRefusals : List ℕ
-partRefusals = 1 ∷ 2 ∷ 3 ∷ 4 ∷ 5 ∷ 7 ∷ 8 ∷ 9 ∷ 10 ∷ 11 ∷ 12 ∷ 13 ∷ 14 ∷ 15 ∷ []
+partRefusals = 1 ∷ 2 ∷ 3 ∷ 4 ∷ 5 ∷ 7 ∷ 8 ∷ 9 ∷ 10 ∷ 11 ∷ 12 ∷ 13 ∷ 14 ∷ 15 ∷ 17 ∷ []
 
 -- a number that is not one of them differs from each that is
 pub not-listed : (x n : ℕ) → isOneOf x partRefusals ≡ false → isOneOf n partRefusals ≡ true → n ≡ x → ⊥

@@ -242,12 +242,17 @@ fn fill_tensors(s: &[u8], at: usize, n: usize, dialect: Dialect, rows: &mut [Ten
     requires { ⌜ isAccepted (run (each (tensor dialect) totalOf n 0) (now s) at) ≡ true ⌝ }
     ensures { λ r. ⌜ now (rows .exit) ≡ filled tensorRow (now (rows .entry)) (run (each (tensor dialect) totalOf n 0) (now (s .entry)) at) ⌝ }
 {
+    let version = dialect.version;
     let mut from = at;
     let mut i: usize = 0;
     while i < n {
-        let name = tensors::known_name(s, from, dialect);
-        let p = name.place + name.len;
         // The order is a constant in each call, so that the compiler makes a body for each.
+        let name = if dialect.big {
+            tensors::known_name(s, from, version, true)
+        } else {
+            tensors::known_name(s, from, version, false)
+        };
+        let p = name.place + name.len;
         let found = if dialect.big {
             tensors::known_after_name(s, p, true)
         } else {

@@ -16,10 +16,24 @@ over-before-zero = refl
 zero-first : boundedProduct (0 ∷ 2 ^ 32 ∷ 2 ^ 32 ∷ 1 ∷ []) ≡ Fits 0
 zero-first = refl
 
--- 33 numbers in blocks of 32, of 18 bytes each: a part of a block is rounded down to whole bytes
-rounded-down : measureOf (33 ∷ 1 ∷ 1 ∷ 1 ∷ []) 2 ≡ Bytes 33 18
+-- 33 numbers are not whole blocks of 32, whatever the other lengths; a number that names no kind is
+-- refused before that
+partial-block : measureOf (33 ∷ 1 ∷ 1 ∷ 1 ∷ []) 2 ≡ Refused 17
 unfolding blockOf
-rounded-down = refl
+partial-block = refl
+
+partial-before-product : measureOf (33 ∷ 2 ^ 32 ∷ 2 ^ 32 ∷ 1 ∷ []) 2 ≡ Refused 17
+unfolding blockOf
+partial-before-product = refl
+
+kind-before-partial : measureOf (33 ∷ 1 ∷ 1 ∷ 1 ∷ []) 4 ≡ Refused 11
+unfolding blockOf
+kind-before-partial = refl
+
+-- no numbers are whole blocks
+none-whole : measureOf (0 ∷ 1 ∷ 1 ∷ 1 ∷ []) 2 ≡ Bytes 0 0
+unfolding blockOf
+none-whole = refl
 
 -- one number of four bytes
 one-number : measureOf (1 ∷ 1 ∷ 1 ∷ 1 ∷ []) 0 ≡ Bytes 1 4

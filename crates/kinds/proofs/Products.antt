@@ -18,7 +18,7 @@ use denote.Array.{Array, each}
 use Rattle.reading.specs.Choice.{if_then_else_}
 use Rattle.kinds.specs.declared.Bounded.{Bounded}
 use Rattle.kinds.specs.declared.Bounded.the-variants.{Fits, Over}
-use Rattle.kinds.specs.Shape.{greatest, productFrom, productsFitFrom, boundedProduct}
+use Rattle.kinds.specs.Shape.{greatest, firstLength, productFrom, productsFitFrom, boundedProduct}
 
 -- a product is too great, or fits, as the quotient says
 pub too-great : (a b : ℕ) → 0 < b → greatest / b < a → greatest < a * b
@@ -70,6 +70,7 @@ ends x n = ends-by (leb (x * n) greatest) (x * n)
 
 -- four lengths of which the first fits are multiplied from the first on
 pub record Lengths (s : List ℕ) : Type 0 where
+  pub first : getD s 0 0 ≡ firstLength s
   pub begins : wholeFrom (getD s 0 0) (getD s 1 0 ∷ getD s 2 0 ∷ getD s 3 0 ∷ []) ≡ boundedProduct s
 
 first-fits : (x : ℕ) (xs : List ℕ) (us : List Val) → shadow (each ℕ (UInt w64 .own) (x ∷ xs) us) → x ≤ greatest
@@ -80,7 +81,7 @@ first-fits x xs (u ∷ us) s = let h : x < 2 ^ 64 = s .0 .1 in omega arith
 pub lengths : (s : List ℕ) (vs : List Val) → Is (Array (UInt w64) 4) s vs → Lengths s
 lengths (a ∷ b ∷ c ∷ d ∷ []) vs p =
     let h = first-fits a (b ∷ c ∷ d ∷ []) (p .0) (p .1 .1) in
-    record { begins = goes-on 1 a (b ∷ c ∷ d ∷ []) (rw (one-mul, le-leb a greatest h)) }
+    record { first = refl; begins = goes-on 1 a (b ∷ c ∷ d ∷ []) (rw (one-mul, le-leb a greatest h)) }
 lengths [] vs p = absurd (omega (arith, p .1 .0 .1))
 lengths (a ∷ []) vs p = absurd (omega (arith, p .1 .0 .1))
 lengths (a ∷ b ∷ []) vs p = absurd (omega (arith, p .1 .0 .1))

@@ -1,19 +1,29 @@
--- The product of a shape's lengths, and the bytes of a tensor of that shape and a kind. Each number
--- must fit 64 bits.
-use Prim.Native.Nat.{ℕ, _*_, _/_, _^_, _-_}
+-- The product of a shape's lengths, and the bytes of a tensor of that shape and a kind. The first
+-- length must be whole blocks, and each number must fit 64 bits.
+use Prim.Native.Nat.{ℕ, _*_, _/_, _%_, _^_, _-_}
 use mathlib.Core.Bool.{Bool, true, false}
 use mathlib.Core.List.{List, [], _∷_}
-use lib.Dec.{leb}
-use Rattle.reading.specs.Choice.{if_then_else_}
+use lib.Dec.{leb, eqb}
+use Rattle.reading.specs.Choice.{if_then_else_, require}
 use Rattle.kinds.specs.declared.Bounded.{Bounded}
 use Rattle.kinds.specs.declared.Bounded.the-variants.{Fits, Over}
 use Rattle.kinds.specs.declared.Measure.{Measure}
 use Rattle.kinds.specs.declared.Measure.the-variants.{Bytes, Refused}
-use Rattle.kinds.specs.Table.{blockOf, knownKind}
+use Rattle.kinds.specs.Table.{blockOf, knownKind, writtenKind}
 
 -- the greatest number of 64 bits
 abbrev pub greatest : ℕ
 greatest = 2 ^ 64 - 1
+
+-- the first length of a shape, and 1 where there is none
+abbrev pub firstLength : List ℕ → ℕ
+firstLength [] = 1
+firstLength (n ∷ shape) = n
+
+-- whether n numbers are whole blocks of a kind (refusal 17 where a first length is not). A kind
+-- whose blocks take no bytes has no such test
+abbrev pub wholeBlocks : ℕ → ℕ → Bool
+wholeBlocks n k = if writtenKind k then eqb (n % blockOf k .numbers) 0 else true
 
 -- x times each length, from the left
 abbrev pub productFrom : ℕ → List ℕ → ℕ
@@ -41,16 +51,24 @@ bytesBefore shape k = productOf shape * blockOf k .bytes
 abbrev pub sizeFits : List ℕ → ℕ → Bool
 sizeFits shape k = leb (bytesBefore shape k) greatest
 
--- the size: rounded down to whole bytes
+-- the bytes of n numbers of a kind. Of whole blocks they are exact: nothing is rounded
+-- (`whole-exact`)
+abbrev pub bytesFor : ℕ → ℕ → ℕ
+bytesFor n k = n * blockOf k .bytes / blockOf k .numbers
+
+-- the size
 abbrev pub sizeOf : List ℕ → ℕ → ℕ
-sizeOf shape k = bytesBefore shape k / blockOf k .numbers
+sizeOf shape k = bytesFor (productOf shape) k
 
 -- what `product` answers
 abbrev pub boundedProduct : List ℕ → Bounded
 boundedProduct shape = if productsFit shape then Fits (productOf shape) else Over
 
--- what `size` answers: an unknown kind first, then the products, then the size
+-- what `size` answers: an unknown kind first, then the first length, the products, the size
 abbrev pub measureOf : List ℕ → ℕ → Measure
 measureOf shape k =
-    if knownKind k then (if productsFit shape then (if sizeFits shape k then Bytes (productOf shape) (sizeOf shape k) else Refused 14) else Refused 13)
-    else Refused 11
+    require (knownKind k) (Refused 11)
+    (require (wholeBlocks (firstLength shape) k) (Refused 17)
+    (require (productsFit shape) (Refused 13)
+    (require (sizeFits shape k) (Refused 14)
+    (Bytes (productOf shape) (sizeOf shape k)))))

@@ -15,13 +15,14 @@ block n b = record { numbers = n; bytes = b }
 abbrev pub noKind : Block
 noKind = block 0 0
 
--- kinds 0 to 39, in order. Those of no bytes are read and never written
+-- kinds 0 to 39, in order, as ggml's own table of types has them. Those of no bytes are read and
+-- never written
 abbrev pub kindTable : List Block
 kindTable =
-    block 1 4 ∷ block 1 2 ∷ block 32 18 ∷ block 32 20 ∷ noKind ∷ noKind ∷ block 32 22 ∷ block 32 24 ∷ block 32 34 ∷ block 32 40 ∷
+    block 1 4 ∷ block 1 2 ∷ block 32 18 ∷ block 32 20 ∷ noKind ∷ noKind ∷ block 32 22 ∷ block 32 24 ∷ block 32 34 ∷ block 32 36 ∷
     block 256 84 ∷ block 256 110 ∷ block 256 144 ∷ block 256 176 ∷ block 256 210 ∷ block 256 292 ∷ block 256 66 ∷ block 256 74 ∷ block 256 98 ∷ block 256 50 ∷
-    block 256 18 ∷ block 256 110 ∷ block 256 82 ∷ block 256 136 ∷ block 256 1 ∷ block 256 2 ∷ block 256 4 ∷ block 256 8 ∷ block 256 8 ∷ block 256 56 ∷
-    block 256 2 ∷ block 256 0 ∷ block 256 0 ∷ block 256 0 ∷ block 256 54 ∷ block 256 66 ∷ block 256 0 ∷ block 256 0 ∷ block 256 0 ∷ block 256 273 ∷ []
+    block 32 18 ∷ block 256 110 ∷ block 256 82 ∷ block 256 136 ∷ block 1 1 ∷ block 1 2 ∷ block 1 4 ∷ block 1 8 ∷ block 1 8 ∷ block 256 56 ∷
+    block 1 2 ∷ block 256 0 ∷ block 256 0 ∷ block 256 0 ∷ block 256 54 ∷ block 256 66 ∷ block 256 0 ∷ block 256 0 ∷ block 256 0 ∷ block 32 17 ∷ []
 
 -- the block of a kind
 unfoldable pub blockOf : ℕ → Block

@@ -2,11 +2,11 @@
 use fields::GREATEST;
 ghost use mathlib.Core.Path.{_≡_};
 ghost use mathlib.Core.Bool.{true};
-ghost use Prim.Native.Nat.{_*_, _/_, _≤_, _<_};
+ghost use Prim.Native.Nat.{_*_, _≤_};
 ghost use lib.Dec.{leb};
 ghost use Rattle.reading.specs.Choice.{if_then_else_};
 ghost use Rattle.kinds.specs.Table.{block, blockOf, knownKind, writtenKind};
-ghost use Rattle.kinds.specs.Shape.{greatest, productOf, productsFit, boundedProduct, measureOf};
+ghost use Rattle.kinds.specs.Shape.{greatest, wholeBlocks, bytesFor, productOf, productsFit, boundedProduct, measureOf};
 ghost use Rattle.kinds.specs.declared.Bounded.the-variants.{Fits, Over};
 
 // How many numbers a block of a kind holds, and how many bytes it takes. A block of no numbers:
@@ -22,7 +22,7 @@ pub enum Bounded {
     Over,
 }
 
-// A tensor's count of numbers and its size in bytes, or the refusal: 11, 13 or 14.
+// A tensor's count of numbers and its size in bytes, or the refusal: 11, 17, 13 or 14.
 pub enum Measure {
     Bytes { product: u64, size: u64 },
     Refused { why: u64 },
@@ -33,10 +33,10 @@ fn block_size(kind: u64) -> u64
     ensures { λ r. ⌜ r ≡ blockOf kind .numbers ⌝ }
 {
     match kind {
-        0..=1 => 1,
-        2..=3 | 6..=9 => 32,
+        0..=1 | 24..=28 | 30 => 1,
+        2..=3 | 6..=9 | 20 | 39 => 32,
         4..=5 => 0,
-        10..=39 => 256,
+        10..=19 | 21..=23 | 29 | 31..=38 => 256,
         _ => 0,
     }
 }
@@ -54,7 +54,7 @@ fn type_size(kind: u64) -> u64
         6 => 22,
         7 => 24,
         8 => 34,
-        9 => 40,
+        9 => 36,
         10 => 84,
         11 | 21 => 110,
         12 => 144,
@@ -72,7 +72,7 @@ fn type_size(kind: u64) -> u64
         28 => 8,
         29 => 56,
         34 => 54,
-        39 => 273,
+        39 => 17,
         _ => 0,
     }
 }
@@ -91,7 +91,10 @@ pub fn block_and_type_size(kind: u64) -> Block
 pub fn is_known(kind: u64) -> bool
     ensures { λ r. ⌜ r ≡ knownKind kind ⌝ }
 {
-    0 < block_size(kind)
+    match kind {
+        0..=3 | 6..=39 => true,
+        _ => false,
+    }
 }
 
 // Whether a kind is written.
@@ -99,6 +102,21 @@ pub fn is_written(kind: u64) -> bool
     ensures { λ r. ⌜ r ≡ writtenKind kind ⌝ }
 {
     0 < type_size(kind)
+}
+
+// Whether n numbers are whole blocks of a kind. A multiple of 256 is, whatever the kind. Of other
+// numbers blocks of 256 never are, unless they take no bytes, and blocks of one always.
+pub fn whole_blocks(n: u64, kind: u64) -> bool
+    ensures { λ r. ⌜ r ≡ wholeBlocks n kind ⌝ }
+{
+    if n % 256 == 0 {
+        return true;
+    }
+    match block_size(kind) {
+        32 => n % 32 == 0,
+        256 => !is_written(kind),
+        _ => true,
+    }
 }
 
 // The product of two numbers, where it fits. It is made where one factor is 0 or 1, or after a
@@ -150,16 +168,19 @@ pub fn fits(numbers: u64, kind: u64) -> bool
     }
 }
 
-// The bytes of so many numbers in such blocks, rounded down, and 0 in blocks of no numbers: for
-// callers that know that they fit.
-pub fn bytes_in(numbers: u64, block: Block) -> u64
-    requires { ⌜ numbers * block .bytes ≤ greatest ⌝ }
-    ensures { λ r. ⌜ r ≡ numbers * block .bytes / block .numbers ⌝ }
+// The bytes of so many numbers of a kind, for callers that know that they fit. Each arm divides by a
+// constant, because that is a shift.
+pub fn known_size(numbers: u64, kind: u64) -> u64
+    requires { ⌜ numbers * blockOf kind .bytes ≤ greatest ⌝ }
+    ensures { λ r. ⌜ r ≡ bytesFor numbers kind ⌝ }
 {
-    if block.numbers == 0 {
-        return 0;
+    let bytes = numbers * type_size(kind);
+    match block_size(kind) {
+        1 => bytes,
+        32 => bytes / 32,
+        256 => bytes / 256,
+        _ => 0,
     }
-    numbers * block.bytes / block.numbers
 }
 
 // The numbers and the bytes of a tensor.
@@ -170,13 +191,16 @@ pub fn size(shape: [u64; 4], kind: u64) -> Measure
     if block.numbers == 0 {
         return Measure::Refused { why: 11 };
     }
+    if !whole_blocks(shape[0], kind) {
+        return Measure::Refused { why: 17 };
+    }
     let Bounded::Fits { value: numbers } = product(shape) else {
         return Measure::Refused { why: 13 };
     };
     if fits(numbers, kind) {
         return Measure::Bytes {
             product: numbers,
-            size: bytes_in(numbers, block),
+            size: numbers * block.bytes / block.numbers,
         };
     }
     Measure::Refused { why: 14 }

@@ -45,6 +45,16 @@ kind-not-written : layoutOf 32 (piece 5 0 ∷ piece 3 31 ∷ []) ≡ refusedAt 3
 unfolding layoutFrom placeOf blockOf
 kind-not-written = refl
 
+-- of the second tensor the first length is not whole blocks, and that of a tensor with no
+-- dimensions, which is 1, is not either
+partial-block : layoutOf 32 (piece 5 0 ∷ piece 33 2 ∷ []) ≡ refusedAt 17 1
+unfolding layoutFrom placeOf blockOf
+partial-block = refl
+
+partial-of-one : placeOf 32 (laid 0 0) (1 ∷ 1 ∷ 1 ∷ 1 ∷ []) 2 ≡ Refused 17
+unfolding placeOf blockOf
+partial-of-one = refl
+
 -- lengths of which a product does not fit, and a product of which the bytes do not
 product-over : placeOf 32 (laid 0 0) (2 ^ 32 ∷ 2 ^ 32 ∷ 0 ∷ 1 ∷ []) 0 ≡ Refused 13
 unfolding placeOf blockOf

@@ -6,7 +6,7 @@ use mathlib.Core.List.{List, [], _∷_}
 use lib.Dec.{leb}
 use Rattle.reading.specs.Choice.{require}
 use Rattle.kinds.specs.Table.{writtenKind}
-use Rattle.kinds.specs.Shape.{greatest, productOf, productsFit, sizeFits, sizeOf}
+use Rattle.kinds.specs.Shape.{greatest, firstLength, wholeBlocks, productOf, productsFit, sizeFits, sizeOf}
 use Rattle.layout.specs.Padding.{padded}
 use Rattle.layout.specs.declared.Laid.{Laid}
 use Rattle.layout.specs.declared.Placed.{Placed}
@@ -29,12 +29,13 @@ laidAfter a laid shape kind = record { total = laid .total + productOf shape; ne
 unfoldable pub placeOf : ℕ → Laid → List ℕ → ℕ → Placed
 placeOf a laid shape kind =
     require (writtenKind kind) (Refused 35)
+    (require (wholeBlocks (firstLength shape) kind) (Refused 17)
     (require (productsFit shape) (Refused 13)
     (require (sizeFits shape kind) (Refused 14)
     (require (leb (laid .total + productOf shape) greatest) (Refused 15)
     (require (leb (endAfter laid shape kind) greatest) (Refused 36)
     (require (leb (padded a (endAfter laid shape kind)) greatest) (Refused 36)
-    (At (laid .next) (sizeOf shape kind) (laidAfter a laid shape kind)))))))
+    (At (laid .next) (sizeOf shape kind) (laidAfter a laid shape kind))))))))
 
 -- a tensor that is to be laid
 pub record Piece : Type 0 where

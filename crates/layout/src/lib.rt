@@ -13,7 +13,8 @@ pub struct Laid {
     pub next: u64,
 }
 
-// A tensor's offset and size with what is laid then, or the refusal: 35, 13, 14, 15 or 36.
+// A tensor's offset and size with what is laid then, or the refusal: 35, 17, 13, 14, 15 or
+// 36.
 pub enum Placed {
     At { offset: u64, size: u64, laid: Laid },
     Refused { why: u64 },
@@ -38,8 +39,8 @@ pub fn pad(alignment: u64, n: u64) -> Bounded
     Bounded::Fits { value: n + gap }
 }
 
-// The place of the next tensor, after what is laid: its kind, its products, its size, the sum of
-// products, and its end with the padding are tested in this order.
+// The place of the next tensor, after what is laid: its kind, its first length, its products, its
+// size, the sum of products, and its end with the padding are tested in this order.
 pub fn place(laid: Laid, shape: [u64; 4], kind: u64, alignment: u64) -> Placed
     ensures { λ r. ⌜ r ≡ placeOf alignment laid shape kind ⌝ }
 {

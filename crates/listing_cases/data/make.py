@@ -17,11 +17,15 @@ INTEGERS = {U8, I8, U16, I16, U32, I32, U64, I64}
 
 # The bytes of a block of each kind; a kind that is not here is none.
 TYPE_SIZES = {
-    0: 4, 1: 2, 2: 18, 3: 20, 6: 22, 7: 24, 8: 34, 9: 40, 10: 84, 11: 110, 12: 144, 13: 176,
+    0: 4, 1: 2, 2: 18, 3: 20, 6: 22, 7: 24, 8: 34, 9: 36, 10: 84, 11: 110, 12: 144, 13: 176,
     14: 210, 15: 292, 16: 66, 17: 74, 18: 98, 19: 50, 20: 18, 21: 110, 22: 82, 23: 136, 24: 1,
     25: 2, 26: 4, 27: 8, 28: 8, 29: 56, 30: 2, 31: 0, 32: 0, 33: 0, 34: 54, 35: 66, 36: 0, 37: 0,
-    38: 0, 39: 273,
+    38: 0, 39: 17,
 }  # fmt: skip
+
+# The kinds with one number in a block, and those with 32. The others have 256.
+BLOCKS_OF_1 = {0, 1, 24, 25, 26, 27, 28, 30}
+BLOCKS_OF_32 = {2, 3, 6, 7, 8, 9, 20, 39}
 
 # The largest number of 64 bits, and the longest string.
 GREATEST = 2**64 - 1
@@ -30,7 +34,13 @@ LONGEST = 2**30
 
 def block_size(kind):
     """The numbers in a block of a kind."""
-    return 1 if kind < 2 else 32 if kind < 10 else 256
+    return 1 if kind in BLOCKS_OF_1 else 32 if kind in BLOCKS_OF_32 else 256
+
+
+def is_whole(kind, lengths):
+    """Whether the first length is whole blocks. A kind without bytes is not asked for that."""
+    first = lengths[0] if lengths else 1
+    return TYPE_SIZES[kind] == 0 or first % block_size(kind) == 0
 
 
 def product(lengths):
@@ -134,6 +144,8 @@ class File:
         numbers = product(lengths)
         if kind not in TYPE_SIZES:
             self.refused(11, kind_place)
+        elif not is_whole(kind, lengths):
+            self.refused(17, place)
         elif numbers is None:
             self.refused(13, place)
         elif numbers * TYPE_SIZES[kind] > GREATEST:
@@ -142,7 +154,8 @@ class File:
             self.refused(15, place)
         else:
             self.total += numbers
-            size = numbers * TYPE_SIZES[kind] // block_size(kind)
+            size, rest = divmod(numbers * TYPE_SIZES[kind], block_size(kind))
+            assert rest == 0, (kind, lengths)
             self.tensors.append((name, kind, lengths, offset, size))
 
     # What a listing of it says
@@ -259,7 +272,7 @@ def alignments():
     whole("last_alignment_unusable", unusable)
 
 
-def shapes_and_names():
+def shapes():
     whole("shapes", tensors=[
         (b"none", 0, [], 0),
         (b"one", 1, [7], 8),
@@ -270,7 +283,21 @@ def shapes_and_names():
         (b"ones", 24, [1, 1, 1, 1], 0),
         (b"largest", 0, [2**62 - 1], GREATEST),
     ])  # fmt: skip
-    whole("every_kind", tensors=[(b"k%d" % kind, kind, [512], 0) for kind in sorted(TYPE_SIZES)])
+
+
+def blocks():
+    kinds = [(b"k%d" % kind, kind) for kind in sorted(TYPE_SIZES)]
+    whole("every_kind", tensors=[(name, kind, [512], 0) for name, kind in kinds])
+    one_block = [(name, kind, [block_size(kind)], 0) for name, kind in kinds]
+    whole("one_block_of_every_kind", tensors=one_block)
+    whole("bf16", tensors=[(b"t", 30, [256], 0)])
+    whole("first_length_0", tensors=[(b"t", 2, [0], 0), (b"u", 12, [0, 33], 0)])
+    # No whole blocks, and no bytes either.
+    without_bytes = [(name, kind, [33], 0) for name, kind in kinds if TYPE_SIZES[kind] == 0]
+    whole("partial_of_no_bytes", tensors=[*without_bytes, (b"none", 31, [], 0)])
+
+
+def names():
     odd_keys = [(b"a b", U8, 0), (b"line\nbreak\xff\x00", I8, 0)]
     odd_names = [(b"", 0, [1], 0), (b"x\ty\n", 0, [1], 0), (b"\xff\xfe", 1, [2], 4)]
     whole("names_as_they_are", odd_keys, odd_names)
@@ -355,6 +382,11 @@ def wrong_tensors():
         "refused_13": [(b"t", 0, [2**32, 2**32, 0], 0)],
         "refused_14": [(b"t", 0, [2**62], 0)],
         "refused_15": [(b"u", 24, [2**63], 0), (b"t", 24, [2**63], 0)],
+        "refused_17": [(b"t", 2, [33], 0)],
+        "refused_17_no_dimensions": [(b"t", 2, [], 0)],
+        "refused_17_product_of_whole_blocks": [(b"t", 2, [16, 2], 0)],
+        "refused_17_before_13": [(b"t", 2, [33, 2**32, 2**32], 0)],
+        "refused_17_before_15": [(b"u", 24, [GREATEST], 0), (b"t", 39, [31], 0)],
     }.items():
         whole(name, tensors=tensors)
         number = int(name.split("_")[1])
@@ -470,7 +502,9 @@ def main():
     keys()
     types()
     alignments()
-    shapes_and_names()
+    shapes()
+    blocks()
+    names()
     full_tables()
     cut_off()
     no_such_format()

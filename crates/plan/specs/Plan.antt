@@ -4,7 +4,7 @@
 --   32  an alignment that is 0 or no multiple of 8
 --   33  an alignment above 2 ^ 32 - 1 that must be added
 --   34  a sheet that says another alignment itself
---   35, 13, 14, 15, 36  a tensor that can't be laid, with its number
+--   35, 17, 13, 14, 15, 36  a tensor that can't be laid, with its number
 --   37  in version 1, a count above 2 ^ 32 - 1
 --   38  an output that is shorter than the start of the data
 use Prim.Native.Nat.{ℕ, max}
@@ -71,7 +71,7 @@ abbrev pub planOf : Dialect → ℕ → Records → Plan
 planOf k a c = record { draft = draftOf a c; end = endOf k a c; start = startOf k a c }
 
 -- all tests of a writer, in their order: for a version and byte order, an alignment, the room of
--- the output, and a sheet. A tensor that can't be laid is refused as 35, 13, 14, 15 or 36
+-- the output, and a sheet. A tensor that can't be laid is refused as 35, 17, 13, 14, 15 or 36
 unfoldable pub planFor : Dialect → ℕ → ℕ → List ℕ → Planned
 planFor k a room s =
     require (knownVersion (k .version)) (Refused 30 0)

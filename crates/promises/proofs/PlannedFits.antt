@@ -100,6 +100,7 @@ weights-fit a laid i (t ∷ ts) low fits all =
             offset = low-fits;
             measured = refl;
             known = written-known (t .parts .kind) (p .written);
+            whole = p .whole;
             products = p .products;
             size = p .size;
             total = p .sum;

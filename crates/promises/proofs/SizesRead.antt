@@ -1,27 +1,39 @@
 -- What is read is told in full by what reads back: the size of a tensor is that of its shape and
--- kind. Assumes nothing.
-use Prim.Native.Nat.{ℕ, _+_}
-use mathlib.Core.Path.{_≡_, refl}
-use mathlib.Core.List.{List, [], _∷_}
+-- kind, and it is exact. Assumes nothing.
+use Prim.Native.Nat.{ℕ}
+use mathlib.Core.Path.{_≡_, refl, sym, subst, _∙_}
+use mathlib.Core.Bool.{true}
+use mathlib.Core.List.{List, [], _∷_, map}
 use lib.Dec.{leb}
-use lib.ListN.{length}
+use lib.ListN.{length, take, drop, length-map}
+use lib.Seq.{take-at}
 use Rattle.reading.specs.Back.{Along, All, Sure}
 use Rattle.reading.specs.Each.{fold}
-use Rattle.reading.specs.Reading.{accepted}
+use Rattle.reading.specs.Reading.{accepted, seen}
 use Rattle.reading.specs.declared.Limits.{Limits}
-use Rattle.reading.proofs.SureLaws.{sure-then, sure-done, sure-here, sure-check, sure-each, sure-under, whatever}
-use Rattle.kinds.specs.Shape.{greatest, productOf, productsFit, sizeFits, sizeOf}
+use Rattle.reading.proofs.Repetition.{seen-accepted}
+use Rattle.reading.proofs.SureLaws.{sure-then, sure-done, sure-here, sure-check, sure-each, sure-under, all-map, whatever}
+use Rattle.kinds.specs.Shape.{greatest, firstLength, wholeBlocks, productOf, sizeOf}
+use Rattle.kinds.proofs.WholeBlocks.{whole-exact, size-exact, size-of-lines}
 use Rattle.layout.specs.Padding.{padded}
 use Rattle.values.specs.declared.Dialect.{Dialect}
 use Rattle.tensors.specs.declared.Tensor.{Tensor}
 use Rattle.tensors.specs.Format.{lengths, tensor, totalOf}
+use Rattle.tensors.specs.Rows.{tensorRow}
+use Rattle.tensors.proofs.Fitting.{sure-fitting}
 use Rattle.start.specs.declared.Rooms.{Rooms}
-use Rattle.header.specs.Answers.{readerRun}
+use Rattle.header.specs.declared.Header.{Header}
+use Rattle.header.specs.Answers.{readerRun, outcomeOf, readerOutcome}
 use Rattle.header.specs.Format.{latest, FullHeader, header}
+use Rattle.header.proofs.Counted.{Counted, counted}
+use Rattle.promises.specs.Sizes.{ExactRow}
 
--- the number of numbers, and of bytes, that a shape and a kind come to
-abbrev Measured : Tensor → Type 0
-Measured t = (t .parameters ≡ productOf (lengths (t .shape))) × (t .size ≡ sizeOf (lengths (t .shape)) (t .kind))
+-- a tensor whose first length is whole blocks, and whose numbers and bytes are those that its shape
+-- and kind come to
+pub record Measured (t : Tensor) : Type 0 where
+  pub whole : wholeBlocks (firstLength (lengths (t .shape))) (t .kind) ≡ true
+  pub parameters : t .parameters ≡ productOf (lengths (t .shape))
+  pub size : t .size ≡ sizeOf (lengths (t .shape)) (t .kind)
 
 -- what holds of each, whatever the state, holds of all
 each-alone : {S A : Type 0} (P : A → Type 0) (f : S → A → S) (l : List A) (z : S) → Along (λ y. P) f z l → All P l
@@ -33,8 +45,7 @@ module _ (s : List ℕ) where
   unfolding tensor
   sure-measured k total p =
       sure-here _ (sure-then whatever (λ name q u. sure-then whatever (λ x r v. sure-then whatever (λ y o w.
-      sure-check (productsFit (lengths x)) 13 p _ (λ e. sure-check (sizeFits (lengths x) (y .kind)) 14 p _ (λ f.
-      sure-check (leb (total + productOf (lengths x)) greatest) 15 p _ (λ g. sure-done (refl, refl))))))))
+      sure-fitting p total name x y (λ tested. record { whole = tested .whole; parameters = refl; size = refl })))))
 
   -- a header: its tensors are measured
   sure-whole : (rooms : Rooms) (cap p : ℕ) → Sure s (header rooms cap) p (λ w q. All Measured (w .tensors))
@@ -45,7 +56,34 @@ module _ (s : List ℕ) where
       sure-then (sure-each {P = λ z. Measured} (tensor (c .dialect)) totalOf (λ z. sure-measured (c .dialect) z) (c .tensors) 0 r) (λ ts o h.
       sure-here _ (sure-check (leb (padded (fold latest 32 es) o) greatest) 18 o _ (λ e. sure-done (each-alone Measured totalOf ts 0 (h .1)))))))
 
--- whatever the bytes, the ceilings, the cap and the tables are
-pub sizes-read : (limits : Limits) (cap : ℕ) (es ts : List (List ℕ)) (s : List ℕ) {w : FullHeader} {q : ℕ} → accepted w q ≡ readerRun limits cap es ts s
-    → All (λ (t : Tensor). (t .parameters ≡ productOf (lengths (t .shape))) × (t .size ≡ sizeOf (lengths (t .shape)) (t .kind))) (w .tensors)
-sizes-read limits cap es ts s {w} {q} read = sure-under limits (sure-whole s (record { entries = length es; tensors = length ts }) cap 0) .holds w q read
+-- the row of a measured tensor is exact
+exact-row : (t : Tensor) → Measured t → ExactRow (tensorRow t)
+exact-row t m =
+    let x = t .shape in
+    let others = x .second ∷ x .third ∷ x .fourth ∷ [] in
+    record {
+      whole = m .whole;
+      size = rw (m .size) (size-exact (lengths x) (t .kind) (m .whole));
+      line = whole-exact (x .first) (t .kind) (m .whole);
+      lines = m .size ∙ size-of-lines (x .first) others (t .kind) (m .whole);
+    }
+
+exact-in : (es ts : List (List ℕ)) (w : FullHeader) (q : ℕ) → All Measured (w .tensors) → Counted (record { entries = length es; tensors = length ts }) w
+    → All ExactRow (take (w .head .tensors) (outcomeOf es ts (accepted w q) .tensors))
+unfolding seen
+exact-in es ts w q all c =
+    rw (take-at (map tensorRow (w .tensors)) (drop (length (w .tensors)) ts) (w .head .tensors) (length-map (w .tensors) tensorRow ∙ c .tensors))
+    (all-map ExactRow tensorRow exact-row (w .tensors) all)
+
+module _ (limits : Limits) (cap : ℕ) (es ts : List (List ℕ)) (s : List ℕ) where
+  -- whatever the bytes, the ceilings, the cap and the tables are
+  pub sizes-read : {w : FullHeader} {q : ℕ} → accepted w q ≡ readerRun limits cap es ts s → All Measured (w .tensors)
+  sizes-read {w} {q} read = sure-under limits (sure-whole s (record { entries = length es; tensors = length ts }) cap 0) .holds w q read
+
+  -- of the rows that a reader's caller has: where the answer is a header h, as many rows as it counts
+  -- tell exact sizes
+  pub rows-exact : {h : Header} {q : ℕ} → accepted h q ≡ readerOutcome limits cap es ts s .answer → All ExactRow (take (h .tensors) (readerOutcome limits cap es ts s .tensors))
+  rows-exact {h} {q} told =
+      let w = seen-accepted _ _ _ _ told in
+      subst (λ (x : Header). All ExactRow (take (x .tensors) (readerOutcome limits cap es ts s .tensors))) (sym (w .2))
+      (subst (λ r. All ExactRow (take (w .0 .head .tensors) (outcomeOf es ts r .tensors))) (w .1) (exact-in es ts (w .0) q (sizes-read (w .1)) (counted limits cap es ts s (w .1))))

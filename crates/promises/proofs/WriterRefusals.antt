@@ -16,7 +16,7 @@ use Rattle.reading.specs.Each.{each, times}
 use Rattle.reading.specs.Reading.{Reading, Answer, accepted, refused, run, here, andThen, _>>=_}
 use Rattle.reading.proofs.SureLaws.{sure-then, sure-done}
 use Rattle.kinds.specs.Table.{blockOf, writtenKind}
-use Rattle.kinds.specs.Shape.{greatest, productOf, productsFit, sizeFits}
+use Rattle.kinds.specs.Shape.{greatest, firstLength, wholeBlocks, productOf, productsFit, sizeFits}
 use Rattle.layout.specs.Padding.{padded}
 use Rattle.layout.specs.Layout.{Piece, Layout, laidOut, refusedAt, ahead, followedBy, endAfter, placeOf, layoutFrom, layoutOf, nothingLaid}
 use Rattle.layout.specs.declared.Laid.{Laid}
@@ -48,7 +48,7 @@ use Rattle.writer.specs.Output.{writtenOf}
 use Rattle.writer.specs.declared.HeaderWritten.the-variants.{Refused as NotWritten}
 use Rattle.promises.specs.Back.{answerFor}
 use Rattle.reading.proofs.RefusalLaws.{listed-too}
-use Rattle.promises.specs.Refusals.{layoutRefusal, writerRefusal, placesOf, Listed, Given}
+use Rattle.promises.specs.Refusals.{layoutRefusals, layoutRefusal, writerRefusals, writerRefusal, placesOf, Listed, Given}
 
 -- what holds of a test's refusal, where the test fails, and of what follows it holds of both
 by-test : {A : Type 0} (P : A → Type 0) (t : Bool) (refusal rest : A) → (t ≡ false → P refusal) → P rest → P (require t refusal rest)
@@ -66,11 +66,12 @@ place-listed : (a : ℕ) (laid : Laid) (shape : List ℕ) (kind : ℕ) → Liste
 unfolding placeOf
 place-listed a laid shape kind =
     by-test ListedPlace (writtenKind kind) _ _ (λ t. refl)
+    (by-test ListedPlace (wholeBlocks (firstLength shape) kind) _ _ (λ t. refl)
     (by-test ListedPlace (productsFit shape) _ _ (λ t. refl)
     (by-test ListedPlace (sizeFits shape kind) _ _ (λ t. refl)
     (by-test ListedPlace (leb (laid .total + productOf shape) greatest) _ _ (λ t. refl)
     (by-test ListedPlace (leb (endAfter laid shape kind) greatest) _ _ (λ t. refl)
-    (by-test ListedPlace (leb (padded a (endAfter laid shape kind)) greatest) _ _ (λ t. refl) tt)))))
+    (by-test ListedPlace (leb (padded a (endAfter laid shape kind)) greatest) _ _ (λ t. refl) tt))))))
 
 -- offsets, or a listed refusal of a tensor below e
 abbrev ListedLayout : ℕ → Layout → Type 0
@@ -92,8 +93,8 @@ from-listed a laid e i (p ∷ pieces) fits =
     followed-listed e i (placeOf a laid (p .lengths) (p .kind)) (λ after. layoutFrom a after (suc i) pieces) (omega arith) (place-listed a laid (p .lengths) (p .kind))
     (λ after. from-listed a after e (suc i) pieces (omega arith))
 
--- for any alignment and any tensors: the refusal is 35, 13, 14, 15 or 36, and its place the number
--- of one of them
+-- for any alignment and any tensors: the refusal is 35, 17, 13, 14, 15 or 36, and its place the
+-- number of one of them
 pub layout-refusals-listed : (a : ℕ) (pieces : List Piece) {n i : ℕ} → layoutOf a pieces ≡ refusedAt n i → (layoutRefusal n ≡ true) × (i < length pieces)
 layout-refusals-listed a pieces h = subst (ListedLayout (length pieces)) h (from-listed a nothingLaid (length pieces) 0 pieces (omega arith))
 
@@ -179,7 +180,7 @@ sheet-over k a s {c} h over =
 
 -- a refusal of the layout is one of the writer
 laid-number : (n : ℕ) → layoutRefusal n ≡ true → writerRefusal n ≡ true
-laid-number n h = listed-too n (35 ∷ 13 ∷ 14 ∷ 15 ∷ 36 ∷ []) (30 ∷ 31 ∷ 32 ∷ 33 ∷ 34 ∷ 35 ∷ 13 ∷ 14 ∷ 15 ∷ 36 ∷ 37 ∷ 38 ∷ []) refl h
+laid-number n h = listed-too n layoutRefusals writerRefusals refl h
 
 -- a plan, or a listed refusal, for a sheet of so many bytes and tensors
 abbrev ListedPlan : ℕ → ℕ → Planned → Type 0
@@ -243,12 +244,14 @@ given = record {
   no-u32 = refl;
   other = refl;
   kind = refl;
+  partial = refl;
   product = refl;
   size = refl;
   total = refl;
   end = refl;
   room = refl;
   laid-kind = refl;
+  laid-partial = refl;
   laid-product = refl;
   laid-size = refl;
   laid-total = refl;

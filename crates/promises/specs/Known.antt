@@ -44,6 +44,14 @@ alone3 k shape =
     (0x47 ∷ 0x47 ∷ 0x55 ∷ 0x46 ∷ 3 ∷ 0 ∷ 0 ∷ 0 ∷ 1 ∷ 0 ∷ 0 ∷ 0 ∷ 0 ∷ 0 ∷ 0 ∷ 0 ∷ 0 ∷ 0 ∷ 0 ∷ 0 ∷ 0 ∷ 0 ∷ 0 ∷ 0 ∷
     1 ∷ 0 ∷ 0 ∷ 0 ∷ 0 ∷ 0 ∷ 0 ∷ 0 ∷ 97 ∷ shape) ++ (k ∷ 0 ∷ 0 ∷ 0 ∷ 0 ∷ 0 ∷ 0 ∷ 0 ∷ 0 ∷ 0 ∷ 0 ∷ 0 ∷ [])
 
+-- the bytes of a shape of one length, low + 256 * high
+abbrev pub short : ℕ → ℕ → List ℕ
+short low high = 1 ∷ 0 ∷ 0 ∷ 0 ∷ low ∷ high ∷ 0 ∷ 0 ∷ 0 ∷ 0 ∷ 0 ∷ 0 ∷ []
+
+-- of the three lengths 33, 2 ^ 32 and 2 ^ 32
+abbrev pub long : List ℕ
+long = 3 ∷ 0 ∷ 0 ∷ 0 ∷ 33 ∷ 0 ∷ 0 ∷ 0 ∷ 0 ∷ 0 ∷ 0 ∷ 0 ∷ 0 ∷ 0 ∷ 0 ∷ 0 ∷ 1 ∷ 0 ∷ 0 ∷ 0 ∷ 0 ∷ 0 ∷ 0 ∷ 0 ∷ 1 ∷ 0 ∷ 0 ∷ 0 ∷ []
+
 -- version 3, no tensors, and one entry: general.alignment is the u32 64
 abbrev pub aligned3 : List ℕ
 aligned3 =
@@ -123,15 +131,32 @@ pub record Known : Type 0 where
   -- a file of 134 bytes holds them, and one of 133 does not hold tensor 1
   pub file-134 : checkFrom 96 134 0 rowsAB ≡ Inside
   pub file-133 : checkFrom 96 133 0 rowsAB ≡ Outside 20 1
-  -- sizes: kind 2 with 33 numbers;
+  -- sizes: whole blocks of kinds 30, 39, 9 and 20
+  pub kind-30 : measureOf (256 ∷ 1 ∷ 1 ∷ 1 ∷ []) 30 ≡ Bytes 256 512
+  pub kind-39 : measureOf (32 ∷ 1 ∷ 1 ∷ 1 ∷ []) 39 ≡ Bytes 32 17
+  pub kind-9 : measureOf (32 ∷ 1 ∷ 1 ∷ 1 ∷ []) 9 ≡ Bytes 32 36
+  pub kind-20 : measureOf (32 ∷ 1 ∷ 1 ∷ 1 ∷ []) 20 ≡ Bytes 32 18
+  -- kind 2 with 33 numbers and with no dimensions, in blocks of 32; kind 31, which takes no bytes
+  pub kind-2 : measureOf (33 ∷ 1 ∷ 1 ∷ 1 ∷ []) 2 ≡ Unmeasured 17
+  pub kind-2-alone : measureOf (1 ∷ 1 ∷ 1 ∷ 1 ∷ []) 2 ≡ Unmeasured 17
+  pub kind-31 : measureOf (33 ∷ 1 ∷ 1 ∷ 1 ∷ []) 31 ≡ Bytes 33 0
   -- kind 0 with no dimensions, with 2 ^ 62 numbers and with one fewer
-  pub kind-2 : measureOf (33 ∷ 1 ∷ 1 ∷ 1 ∷ []) 2 ≡ Bytes 33 18
   pub no-dimensions : measureOf (1 ∷ 1 ∷ 1 ∷ 1 ∷ []) 0 ≡ Bytes 1 4
   pub too-long : measureOf (2 ^ 62 ∷ 1 ∷ 1 ∷ 1 ∷ []) 0 ≡ Unmeasured 14
   pub just-fits : measureOf ((2 ^ 62 - 1) ∷ 1 ∷ 1 ∷ 1 ∷ []) 0 ≡ Bytes (2 ^ 62 - 1) (2 ^ 64 - 4)
-  -- the same four through the reader, which refuses 2 ^ 62 numbers at the tensor's start;
-  -- and the row of the one with no dimensions
-  pub kind-2-read : readerRun full 0 [] ([] ∷ []) (alone3 2 (1 ∷ 0 ∷ 0 ∷ 0 ∷ 33 ∷ 0 ∷ 0 ∷ 0 ∷ 0 ∷ 0 ∷ 0 ∷ 0 ∷ [])) ≡ only (flat 32 2 33 0 18) 57
+  -- through the reader: a header of 256 numbers of kind 30. Its file has 576 bytes; cut in half it
+  -- does not hold the tensor
+  pub bf16-read : readerRun full 0 [] ([] ∷ []) (alone3 30 (short 0 1)) ≡ only (flat 32 30 256 0 512) 57
+  pub bf16-whole : checkFrom 64 576 0 (tensorRow (flat 32 30 256 0 512) ∷ []) ≡ Inside
+  pub bf16-cut : checkFrom 64 288 0 (tensorRow (flat 32 30 256 0 512) ∷ []) ≡ Outside 20 0
+  -- parts of a block are refused at the tensor's start, also where a product would not fit; no
+  -- numbers are whole blocks, and kind 31 has no such test
+  pub kind-2-read : readerRun full 0 [] ([] ∷ []) (alone3 2 (short 33 0)) ≡ refused 17 24
+  pub kind-2-alone-read : readerRun full 0 [] ([] ∷ []) (alone3 2 (0 ∷ 0 ∷ 0 ∷ 0 ∷ [])) ≡ refused 17 24
+  pub kind-2-long-read : readerRun full 0 [] ([] ∷ []) (alone3 2 long) ≡ refused 17 24
+  pub kind-2-empty-read : readerRun full 0 [] ([] ∷ []) (alone3 2 (short 0 0)) ≡ only (flat 32 2 0 0 0) 57
+  pub kind-31-read : readerRun full 0 [] ([] ∷ []) (alone3 31 (short 33 0)) ≡ only (flat 32 31 33 0 0) 57
+  -- kind 0 with no dimensions, and its row; 2 ^ 62 numbers are refused at the tensor's start
   pub no-dimensions-read : readerRun full 0 [] ([] ∷ []) (alone3 0 (0 ∷ 0 ∷ 0 ∷ 0 ∷ [])) ≡ only scalarA 49
   pub no-dimensions-row : tensorRow scalarA ≡ 32 ∷ 1 ∷ 0 ∷ 0 ∷ 1 ∷ 1 ∷ 1 ∷ 1 ∷ 0 ∷ 4 ∷ []
   pub too-long-read : readerRun full 0 [] ([] ∷ []) (alone3 0 (1 ∷ 0 ∷ 0 ∷ 0 ∷ 0 ∷ 0 ∷ 0 ∷ 0 ∷ 0 ∷ 0 ∷ 0 ∷ 64 ∷ [])) ≡ refused 14 24

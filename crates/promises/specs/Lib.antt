@@ -3,3 +3,4 @@ pub mod RowContents
 pub mod RoundTrip
 pub mod Known
 pub mod Refusals
+pub mod Sizes

@@ -14,12 +14,18 @@ use Rattle.promises.specs.Back.{answerFor}
 use Rattle.promises.specs.Known.{little, piece}
 
 -- the refusals of a tensor that can't be laid, in the order of the tests
+abbrev pub layoutRefusals : List ℕ
+layoutRefusals = 35 ∷ 17 ∷ 13 ∷ 14 ∷ 15 ∷ 36 ∷ []
+
 abbrev pub layoutRefusal : ℕ → Bool
-layoutRefusal n = isOneOf n (35 ∷ 13 ∷ 14 ∷ 15 ∷ 36 ∷ [])
+layoutRefusal n = isOneOf n layoutRefusals
 
 -- the refusals of the writer, in the order of its tests
+abbrev pub writerRefusals : List ℕ
+writerRefusals = 30 ∷ 31 ∷ 32 ∷ 33 ∷ 34 ∷ 35 ∷ 17 ∷ 13 ∷ 14 ∷ 15 ∷ 36 ∷ 37 ∷ 38 ∷ []
+
 abbrev pub writerRefusal : ℕ → Bool
-writerRefusal n = isOneOf n (30 ∷ 31 ∷ 32 ∷ 33 ∷ 34 ∷ 35 ∷ 13 ∷ 14 ∷ 15 ∷ 36 ∷ 37 ∷ 38 ∷ [])
+writerRefusal n = isOneOf n writerRefusals
 
 -- how many places a refusal of the writer may have, counted from 0, for a sheet of so many bytes
 -- and tensors: a tensor's number, a place in the sheet or its end, or 0 alone
@@ -47,7 +53,7 @@ flatEntry name k length = 0 ∷ 0 ∷ 0 ∷ 19 ∷ 2 ∷ 0 ∷ 0 ∷ 0 ∷ 1 ∷
 abbrev pub squareEntry : List ℕ
 squareEntry = 0 ∷ 0 ∷ 0 ∷ 27 ∷ 2 ∷ 0 ∷ 0 ∷ 0 ∷ 1 ∷ 97 ∷ 0 ∷ 0 ∷ 0 ∷ 0 ∷ 2 ∷ 0 ∷ 0 ∷ 0 ∷ 1 ∷ 0 ∷ 0 ∷ 0 ∷ 0 ∷ 0 ∷ 0 ∷ 0 ∷ 1 ∷ 0 ∷ 0 ∷ 0 ∷ 0 ∷ []
 
--- tensor a, of kind 24, with 2 ^ 63 numbers, of which 256 take a byte
+-- tensor a, of kind 24, with 2 ^ 63 numbers of a byte each
 abbrev pub halfEntry : List ℕ
 halfEntry = flatEntry 97 24 (128 ∷ 0 ∷ 0 ∷ 0 ∷ 0 ∷ 0 ∷ 0 ∷ 0 ∷ [])
 
@@ -60,13 +66,15 @@ pub record Given : Type 0 where
   pub no-u32 : answerFor (little 3) (2 ^ 32) (1 ∷ []) [] ≡ NotWritten 33 0
   pub other : answerFor (little 3) 32 sheet64 [] ≡ NotWritten 34 0
   pub kind : answerFor (little 3) 32 (1 ∷ flatEntry 97 31 (0 ∷ 0 ∷ 0 ∷ 0 ∷ 0 ∷ 0 ∷ 0 ∷ 1 ∷ [])) [] ≡ NotWritten 35 0
+  pub partial : answerFor (little 3) 32 (1 ∷ (flatEntry 97 0 (0 ∷ 0 ∷ 0 ∷ 0 ∷ 0 ∷ 0 ∷ 0 ∷ 5 ∷ []) ++ flatEntry 98 2 (0 ∷ 0 ∷ 0 ∷ 0 ∷ 0 ∷ 0 ∷ 0 ∷ 33 ∷ []))) [] ≡ NotWritten 17 1
   pub product : answerFor (little 3) 32 (1 ∷ squareEntry) [] ≡ NotWritten 13 0
   pub size : answerFor (little 3) 32 (1 ∷ flatEntry 97 0 (64 ∷ 0 ∷ 0 ∷ 0 ∷ 0 ∷ 0 ∷ 0 ∷ 0 ∷ [])) [] ≡ NotWritten 14 0
   pub total : answerFor (little 3) 32 (1 ∷ (halfEntry ++ halfEntry)) [] ≡ NotWritten 15 1
   pub end : answerFor (little 3) 32 (1 ∷ flatEntry 97 0 (63 ∷ 255 ∷ 255 ∷ 255 ∷ 255 ∷ 255 ∷ 255 ∷ 255 ∷ [])) [] ≡ NotWritten 36 0
   pub room : answerFor (little 3) 32 (1 ∷ []) [] ≡ NotWritten 38 0
-  -- the five of a tensor, by the layout itself
+  -- the six of a tensor, by the layout itself
   pub laid-kind : layoutOf 32 (piece 5 0 ∷ piece 3 31 ∷ []) ≡ refusedAt 35 1
+  pub laid-partial : layoutOf 32 (piece 5 0 ∷ piece 33 2 ∷ []) ≡ refusedAt 17 1
   pub laid-product : layoutOf 32 (record { lengths = 2 ^ 32 ∷ 2 ^ 32 ∷ 0 ∷ 1 ∷ []; kind = 0 } ∷ []) ≡ refusedAt 13 0
   pub laid-size : layoutOf 32 (piece (2 ^ 62) 0 ∷ []) ≡ refusedAt 14 0
   pub laid-total : layoutOf 32 (piece (2 ^ 63) 24 ∷ piece (2 ^ 63) 24 ∷ []) ≡ refusedAt 15 1

@@ -16,7 +16,7 @@ use Rattle.fields.specs.Value.{value, number}
 use Rattle.reading.proofs.RunLaws.{goes-on}
 use Rattle.reading.proofs.SureLaws.{sure-then, sure-done, sure-here, sure-mark, sure-check, sure-if, sure-field, sure-so, sure-run, whatever}
 use Rattle.reading.proofs.Repetition.{each-never}
-use Rattle.kinds.specs.Shape.{greatest, productOf, productsFit, sizeFits}
+use Rattle.kinds.specs.Shape.{productsFit, sizeFits}
 use Rattle.kinds.specs.Table.{knownKind}
 use Rattle.tensors.specs.Format.{lengths, lengthAt, lengthsOf, shape, kindAndOffset, tensor, totalOf}
 use Rattle.values.specs.Format.{sizeWidth, size, textLooking, text}
@@ -27,6 +27,7 @@ use Rattle.values.specs.declared.Span.{Span}
 use Rattle.tensors.specs.declared.KindAndOffset.{KindAndOffset}
 use Rattle.tensors.specs.declared.Tensor.{Tensor}
 use Rattle.tensors.specs.declared.AfterName.{AfterName}
+use Rattle.tensors.proofs.Fitting.{sure-fitting}
 
 -- what an answer that is no refusal holds
 held : {A : Type 0} (r : Answer A) → isAccepted r ≡ true → (a : A) × (q : ℕ) × (accepted a q ≡ r)
@@ -112,19 +113,18 @@ sure-shape s p big =
     sure-so (sure-lengths s big n q (leb-true n 4 e) (omega (arith, h .after, h .inside))) (λ x r g.
     subst (λ m. Shaped s p big m x r) (h .is) (record { few = leb-true n 4 e; is = rw (h .after) at (g .0); after = omega (arith, h .after, g .1) })))))
 
--- the kind and the offset at p, of which the kind is known
+-- the kind and the offset at p
 record Kept (s : List ℕ) (p : ℕ) (big : Bool) (y : KindAndOffset) (q : ℕ) : Type 0 where
   inside : p + 12 ≤ length s
   kind : y .kind ≡ value big (take 4 (drop p s))
   offset : y .offset ≡ value big (take 8 (drop (p + 4) s))
   after : q ≡ p + 12
-  known : knownKind (y .kind) ≡ true
 
 sure-stored : (s : List ℕ) (p : ℕ) (big : Bool) → Sure s (kindAndOffset (inOrder big)) p (λ y q. Kept s p big y q)
 unfolding kindAndOffset
 sure-stored s p big =
     sure-here _ (sure-then (sure-there s 4 big p) (λ t q h. sure-then (sure-there s 8 big q) (λ o r g. sure-check (knownKind t) 11 p _ (λ e.
-    sure-mark aKind t p _ (sure-done (record { inside = omega (arith, h .after, g .inside); kind = h .is; offset = rw (h .after) at (g .is); after = omega (arith, h .after, g .after); known = e }))))))
+    sure-mark aKind t p _ (sure-done (record { inside = omega (arith, h .after, g .inside); kind = h .is; offset = rw (h .after) at (g .is); after = omega (arith, h .after, g .after) }))))))
 
 -- what stands after a name that ends at p, where it begins with the dimension count n
 abbrev pub restThere : List ℕ → ℕ → Bool → ℕ → AfterName
@@ -136,12 +136,11 @@ restThere s p big n =
       next = p + 4 + 8 * n + 12;
     }
 
--- it is there, and its kind is known
+-- it is there
 record Rested (s : List ℕ) (p : ℕ) (big : Bool) (n : ℕ) (x : AfterName) (q : ℕ) : Type 0 where
   few : n ≤ 4
   inside : p + 4 + 8 * n + 12 ≤ length s
   is : accepted x q ≡ accepted (restThere s p big n) (p + 4 + 8 * n + 12)
-  known : knownKind (x .kind) ≡ true
 
 sure-rest : (s : List ℕ) (p : ℕ) (big : Bool) → Sure s (afterName big) p (λ x q. Rested s p big (value big (take 4 (drop p s))) x q)
 unfolding afterName
@@ -150,7 +149,7 @@ sure-rest s p big =
     let k = rw (h .after) at (g .kind) in
     let o = rw (h .after) at (g .offset) in
     let n = rw (h .after) at (g .after) in
-    record { few = h .few; inside = omega (arith, h .after, g .inside); is = rw (h .is, k, o, n) refl; known = g .known }))))
+    record { few = h .few; inside = omega (arith, h .after, g .inside); is = rw (h .is, k, o, n) refl }))))
 
 -- what is so of it where it is there
 pub record RestThere (s : List ℕ) (p : ℕ) (big : Bool) (n : ℕ) : Type 0 where
@@ -199,8 +198,7 @@ sure-parts : (k : Dialect) (s : List ℕ) (total p : ℕ) → Sure s (tensor k t
 unfolding tensor
 sure-parts k s total p =
     sure-here _ (sure-then (sure-run whatever) (λ a q e. sure-then (sure-run whatever) (λ x r f. sure-then (sure-run whatever) (λ y u g.
-    sure-check (productsFit (lengths x)) 13 p _ (λ fit. sure-check (sizeFits (lengths x) (y .kind)) 14 p _ (λ fits.
-    sure-check (leb (total + productOf (lengths x)) greatest) 15 p _ (λ below. sure-done
+    sure-fitting p total a x y (λ tested.
     (record {
       name = a;
       middle = q;
@@ -209,15 +207,14 @@ sure-parts k s total p =
       rested = rest-of k s q (f .1) (g .1);
       ends = refl;
       is = refl;
-      products = fit;
-      size = fits;
-    }))))))))
+      products = tested .products;
+      size = tested .size;
+    }))))))
 
 -- a name and what stands after it are a tensor, where the total is the one given, and all of it
 -- fits
 pub record Found (k : Dialect) (s : List ℕ) (p total : ℕ) (a : Span) (x : AfterName) : Type 0 where
   pub read : accepted (tensorOf a x) (x .next) ≡ run (tensor k total) s p
-  pub known : knownKind (x .kind) ≡ true
   pub products : productsFit (lengths (x .shape)) ≡ true
   pub size : sizeFits (lengths (x .shape)) (x .kind) ≡ true
 
@@ -238,7 +235,6 @@ module _ (k : Dialect) (s : List ℕ) (p n i total : ℕ) (below : i < n) (all :
       let g = next .3 in
       record {
         read = rw (g .is, g .ends) (next .2);
-        known = sure-rest s (g .middle) (k .big) .holds (g .again) (g .again .next) (g .rested) .known;
         products = g .products;
         size = g .size;
       }

@@ -1,6 +1,6 @@
 -- A tensor has one mark, and no known kind is above 39: ceilings from there on change nothing.
 -- Assumes nothing.
-use Prim.Native.Nat.{ℕ, _+_, _≤_}
+use Prim.Native.Nat.{ℕ, _≤_}
 use mathlib.Core.Path.{_≡_, refl, ap}
 use mathlib.Core.List.{List}
 use mathlib.Core.Bool.{Bool, true, false}
@@ -9,16 +9,16 @@ use lib.Dec.{leb, ltb}
 use borrow.Author.Tests.{leb-true, leb-false, le-leb, ltb-true}
 use Rattle.reading.specs.Ceilings.{under, Low}
 use Rattle.reading.specs.Reading.{aKind, run}
-use Rattle.tensors.specs.Format.{lengths, lengthAt, lengthsOf, shape, kindAndOffset, tensor}
+use Rattle.tensors.specs.Format.{lengthAt, lengthsOf, shape, kindAndOffset, tensor}
 use Rattle.reading.proofs.CeilingLaws.{low-run, low-bind, low-done, low-here, low-mark, low-if, low-checked}
 use Rattle.fields.proofs.NumberFields.{low-number}
-use Rattle.kinds.specs.Shape.{greatest, productOf, productsFit, sizeFits}
 use Rattle.kinds.specs.Table.{blockOf, knownKind}
 use Rattle.kinds.proofs.KindTable.{past}
 use Rattle.values.specs.declared.Dialect.{Dialect}
 use Rattle.reading.specs.declared.Limits.{Limits}
 use Rattle.kinds.specs.declared.Block.{Block}
 use Rattle.values.proofs.ValueMarks.{low-text}
+use Rattle.tensors.proofs.Fitting.{low-fitting}
 
 -- a known kind is in the table
 kind-cases : (t : ℕ) (b : Bool) → leb t 39 ≡ b → knownKind t ≡ true → t ≤ 39
@@ -55,8 +55,7 @@ module _ (l : Limits) (high : 39 ≤ l .kinds) (k : Dialect) where
   unfolding tensor
   low-tensor total =
       low-bind l _ _ (low-here l) (λ p. low-bind l _ _ (low-text l k) (λ name. low-bind l _ _ (low-shape l k) (λ x. low-bind l _ _ low-stored (λ y.
-      low-checked l (productsFit (lengths x)) 13 p _ (λ e. low-checked l (sizeFits (lengths x) (y .kind)) 14 p _ (λ e.
-      low-checked l (leb (total + productOf (lengths x)) greatest) 15 p _ (λ e. low-done l _)))))))
+      low-fitting p total name x y l))))
 
   -- so no ceiling from 39 on changes what a tensor is
   pub under-tensor : (total : ℕ) (s : List ℕ) (p : ℕ) → run (under l (tensor k total)) s p ≡ run (tensor k total) s p

@@ -1,5 +1,5 @@
 -- The refusals of tensors, and that each names a place within the bytes. Assumes nothing.
-use Prim.Native.Nat.{ℕ, _+_, _≤_}
+use Prim.Native.Nat.{ℕ, _≤_}
 use mathlib.Core.Path.{refl}
 use mathlib.Core.List.{List, [], _∷_}
 use lib.Dec.{leb, ltb}
@@ -7,18 +7,18 @@ use lib.ListN.{length}
 use Rattle.reading.specs.Each.{each}
 use Rattle.reading.specs.Refusals.{OneOf, Refuses}
 use Rattle.reading.specs.declared.Limits.{Limits}
-use Rattle.reading.proofs.RefusalLaws.{refuses-then, refuses-done, refuses-here, refuses-if, refuses-check, refuses-mark, refuses-each, refuses-too}
+use Rattle.reading.proofs.RefusalLaws.{listed-too, refuses-then, refuses-done, refuses-here, refuses-if, refuses-check, refuses-mark, refuses-each, refuses-too}
 use Rattle.fields.proofs.NumberFields.{refuses-number}
-use Rattle.kinds.specs.Shape.{greatest, productOf, productsFit, sizeFits}
 use Rattle.kinds.specs.Table.{knownKind}
 use Rattle.values.specs.declared.Dialect.{Dialect}
 use Rattle.values.proofs.ValueRefusals.{textRefusals, refuses-text}
-use Rattle.tensors.specs.Format.{lengths, lengthAt, lengthsOf, shape, kindAndOffset, tensor, totalOf}
+use Rattle.tensors.proofs.Fitting.{fittingRefusals, refuses-fitting}
+use Rattle.tensors.specs.Format.{lengthAt, lengthsOf, shape, kindAndOffset, tensor, totalOf}
 
--- those of a tensor: its name's, too many dimensions, a kind that is none or too new, and what does
--- not fit
+-- those of a tensor: its name's, too many dimensions, a kind that is none or too new, a part of a
+-- block, and what does not fit
 abbrev pub tensorRefusals : List ℕ
-tensorRefusals = 1 ∷ 7 ∷ 10 ∷ 11 ∷ 12 ∷ 13 ∷ 14 ∷ 15 ∷ []
+tensorRefusals = 1 ∷ 7 ∷ 10 ∷ 11 ∷ 12 ∷ 17 ∷ 13 ∷ 14 ∷ 15 ∷ []
 
 missing : {s : List ℕ} (q : ℕ) → q ≤ length s → OneOf tensorRefusals s 1 q
 missing q h = record { listed = refl; inside = h }
@@ -44,9 +44,7 @@ module _ {l : Limits} {s : List ℕ} (k : Dialect) where
   unfolding tensor
   refuses-tensor total =
       refuses-here _ (λ p low. refuses-then (refuses-too textRefusals tensorRefusals refl (refuses-text k)) (λ name. refuses-then refuses-shape (λ x. refuses-then refuses-stored (λ y.
-      refuses-then (refuses-check (productsFit (lengths x)) 13 p (λ e. record { listed = refl; inside = low })) (λ u.
-      refuses-then (refuses-check (sizeFits (lengths x) (y .kind)) 14 p (λ e. record { listed = refl; inside = low })) (λ v.
-      refuses-then (refuses-check (leb (total + productOf (lengths x)) greatest) 15 p (λ e. record { listed = refl; inside = low })) (λ w. refuses-done)))))))
+      refuses-fitting p total name x y (λ n h. record { listed = listed-too n fittingRefusals tensorRefusals refl h; inside = low })))))
 
   -- and those of all tensors
   pub refuses-tensors : (n : ℕ) → Refuses l s (OneOf tensorRefusals s) (each (tensor k) totalOf n 0)

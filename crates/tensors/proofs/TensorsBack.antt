@@ -74,7 +74,7 @@ module _ (k : Dialect) {s : List ℕ} where
   weighed-back total c fits p =
       simp append-assoc (at-place _ (follows (text-back k (c .name) (fits .name) p) (λ a e.
       exactly _ (shape-back (c .shape) (fits .shape) _) (closes _ (stored-back (c .kind) (c .offset) (fits .kind) (fits .offset) (fits .known) _)
-      (checked 13 p (fits .products) (checked 14 p (fits .size) (checked 15 p (le-leb _ _ (fits .total)) (nothing-more (rw (e, fits .measured))))))))))
+      (checked 17 p (fits .whole) (checked 13 p (fits .products) (checked 14 p (fits .size) (checked 15 p (le-leb _ _ (fits .total)) (nothing-more (rw (e, fits .measured)))))))))))
 
   pub tensor-back : (total : ℕ) (c : TensorContent) → FitsTensor total c → (p : ℕ) → Back s (tensorContent s) (tensor k total) p (tensorBytes k c) c
   tensor-back total c fits p = then-shown (λ w. w .weight) (weighed-back total c fits p)

@@ -1,19 +1,18 @@
 -- A tensor's name lies before the tensor's end, since it was read on the way there. Assumes
 -- nothing.
-use Prim.Native.Nat.{ℕ, _+_, _≤_}
+use Prim.Native.Nat.{ℕ, _≤_}
 use mathlib.Core.List.{List}
 use native.Mathlib.Omega.{arith}
-use lib.Dec.{leb}
 use Rattle.reading.specs.Back.{All, Sure}
 use Rattle.reading.specs.Each.{each}
-use Rattle.reading.proofs.SureLaws.{sure-then, sure-done, sure-here, sure-check, sure-run, whatever}
+use Rattle.reading.proofs.SureLaws.{sure-then, sure-here, sure-run, whatever}
 use Rattle.reading.proofs.Onward.{onward, sure-each-by}
-use Rattle.kinds.specs.Shape.{greatest, productOf, productsFit, sizeFits}
 use Rattle.values.specs.declared.Dialect.{Dialect}
 use Rattle.values.specs.Spans.{EndsBy}
 use Rattle.values.proofs.ValuesEnd.{text-ends}
-use Rattle.tensors.specs.Format.{lengths, shape, kindAndOffset, tensor, totalOf}
+use Rattle.tensors.specs.Format.{shape, kindAndOffset, tensor, totalOf}
 use Rattle.tensors.specs.declared.Tensor.{Tensor}
+use Rattle.tensors.proofs.Fitting.{sure-fitting}
 
 -- a tensor's name ends at or before e
 abbrev NameEndsBy : ℕ → Tensor → Type 0
@@ -30,8 +29,7 @@ module _ (k : Dialect) (s : List ℕ) where
       sure-here _ (sure-then (text-ends k s p) (λ name q h. sure-then (sure-run whatever) (λ x r f. sure-then (sure-run whatever) (λ y e g.
       let i : q ≤ r = onward (shape k) s q (f .1) in
       let j : r ≤ e = onward (kindAndOffset k) s r (g .1) in
-      sure-check (productsFit (lengths x)) 13 p _ (λ a. sure-check (sizeFits (lengths x) (y .kind)) 14 p _ (λ b.
-      sure-check (leb (total + productOf (lengths x)) greatest) 15 p _ (λ c. sure-done (omega arith))))))))
+      sure-fitting p total name x y (λ tested. omega arith)))))
 
   pub tensors-end : (n total p : ℕ) → Sure s (each (tensor k) totalOf n total) p (λ l q. All (λ (t : Tensor). EndsBy q (t .name)) l)
   tensors-end n total p = sure-each-by (tensor k) totalOf name-later tensor-ends n total p

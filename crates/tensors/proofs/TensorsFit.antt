@@ -16,11 +16,12 @@ use Rattle.tensors.specs.Format.{lengths, lengthAt, lengthsOf, shape, ki
 use Rattle.values.specs.Format.{size}
 use Rattle.reading.proofs.SureLaws.{sure-then, sure-done, sure-here, sure-mark, sure-check, sure-if, sure-each, sure-so, along-map}
 use Rattle.fields.proofs.NumberFields.{sure-number}
-use Rattle.kinds.specs.Shape.{greatest, productOf, productsFit, sizeFits}
+use Rattle.kinds.specs.Shape.{productOf}
 use Rattle.kinds.specs.Table.{knownKind}
 use Rattle.tensors.specs.Contents.{tensorContent, FitsLength, FitsShape, FitsTensor, totalWith}
 use Rattle.values.specs.declared.Dialect.{Dialect}
 use Rattle.values.proofs.ValuesFit.{sure-text}
+use Rattle.tensors.proofs.Fitting.{sure-fitting}
 
 module _ (k : Dialect) (s : List ℕ) (bytes : All Byte s) where
   sure-length : (n i p : ℕ) → Sure s (lengthAt k n i) p (λ v q. FitsLength n i v)
@@ -50,9 +51,21 @@ module _ (k : Dialect) (s : List ℕ) (bytes : All Byte s) where
   unfolding tensor
   sure-weighed total p =
       sure-here _ (sure-then (sure-text k s bytes p) (λ a q short. sure-then (sure-shape q) (λ x r f. sure-then (sure-stored r) (λ y u g.
-      sure-check (productsFit (lengths x)) 13 p _ (λ e13. sure-check (sizeFits (lengths x) (y .kind)) 14 p _ (λ e14.
-      sure-check (leb (total + productOf (lengths x)) greatest) 15 p _ (λ e15. sure-done
-      (record { name = short; shape = f; kind = g .0; offset = g .1; known = g .2; products = e13; size = e14; measured = refl; total = leb-true _ _ e15 }, refl))))))))
+      sure-fitting p total a x y (λ tested. (
+        record {
+          name = short;
+          shape = f;
+          kind = g .0;
+          offset = g .1;
+          known = g .2;
+          whole = tested .whole;
+          products = tested .products;
+          size = tested .size;
+          measured = refl;
+          total = tested .total;
+        },
+        refl,
+      ))))))
 
   pub sure-tensor : (total p : ℕ) → Sure s (tensor k total) p (λ t q. FitsTensor total (tensorContent s t))
   sure-tensor total p = sure-so (sure-weighed total p) (λ t q h. h .0)

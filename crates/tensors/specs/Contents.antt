@@ -11,7 +11,7 @@ use lib.Dec.{ltb}
 use Rattle.reading.specs.Choice.{if_then_else_}
 use Rattle.fields.specs.Bytes.{bytesOf, Within}
 use Rattle.kinds.specs.Table.{knownKind}
-use Rattle.kinds.specs.Shape.{greatest, productOf, productsFit, sizeFits, sizeOf}
+use Rattle.kinds.specs.Shape.{greatest, firstLength, wholeBlocks, productOf, productsFit, sizeFits, sizeOf}
 use Rattle.values.specs.declared.Dialect.{Dialect}
 use Rattle.tensors.specs.declared.Shape.{Shape}
 use Rattle.tensors.specs.declared.Tensor.{Tensor}
@@ -73,6 +73,7 @@ pub record FitsTensor (before : ℕ) (t : TensorContent) : Type 0 where
   pub kind : Within 4 (t .kind)
   pub offset : Within 8 (t .offset)
   pub known : knownKind (t .kind) ≡ true
+  pub whole : wholeBlocks (firstLength (lengths (t .shape))) (t .kind) ≡ true
   pub products : productsFit (lengths (t .shape)) ≡ true
   pub size : sizeFits (lengths (t .shape)) (t .kind) ≡ true
   pub measured : t .size ≡ sizeOf (lengths (t .shape)) (t .kind)

@@ -3,6 +3,7 @@
 --   10  more than four dimensions, at their count
 --   11  a number that names no kind, at the kind; `mark` says that one was found known (12 above a
 --       reader's ceiling)
+--   17  a first length that is not whole blocks of the kind, at the tensor's start
 --   13  a product of lengths above 2 ^ 64 - 1, at the tensor's start
 --   14  a size before its division above 2 ^ 64 - 1, at the tensor's start
 --   15  a running total of products above 2 ^ 64 - 1, at the tensor's start
@@ -13,7 +14,7 @@ use Rattle.reading.specs.Choice.{if_then_else_}
 use Rattle.reading.specs.Reading.{aKind, Reading, done, _>>=_, _>>_, here, check, mark}
 use Rattle.fields.specs.Value.{number}
 use Rattle.kinds.specs.Table.{knownKind}
-use Rattle.kinds.specs.Shape.{greatest, productOf, productsFit, sizeFits, sizeOf}
+use Rattle.kinds.specs.Shape.{greatest, firstLength, wholeBlocks, productOf, productsFit, sizeFits, sizeOf}
 use Rattle.values.specs.declared.Dialect.{Dialect}
 use Rattle.values.specs.declared.Span.{Span}
 use Rattle.tensors.specs.declared.Shape.{Shape}
@@ -58,10 +59,11 @@ kindAndOffset k = do
   mark aKind t p
   done (record { kind = t; offset = o })
 
--- the tensor of what stands at p, after tensors whose products come to total: its products, its
--- size and the new total must fit
+-- the tensor of what stands at p, after tensors whose products come to total: its first length must
+-- be whole blocks, and its products, its size and the new total must fit
 abbrev pub fitting : ℕ → ℕ → Span → Shape → KindAndOffset → Reading Tensor
 fitting p total name x y = do
+  check (wholeBlocks (firstLength (lengths x)) (y .kind)) 17 p
   check (productsFit (lengths x)) 13 p
   check (sizeFits (lengths x) (y .kind)) 14 p
   check (leb (total + productOf (lengths x)) greatest) 15 p

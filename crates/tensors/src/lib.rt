@@ -18,7 +18,6 @@ ghost use mathlib.Core.List.{[]};
 ghost use mathlib.Core.Path.{_≡_};
 ghost use Rattle.fields.specs.Value.{asNumber};
 ghost use Rattle.kinds.specs.Shape.{productsFit, sizeFits};
-ghost use Rattle.kinds.specs.Table.{knownKind};
 ghost use Rattle.reading.specs.Ceilings.{under};
 ghost use Rattle.reading.specs.Reading.{accepted, isAccepted, run};
 ghost use Rattle.tensors.specs.Answers.{asShape, asKindAndOffset, asTensor};
@@ -160,7 +159,8 @@ fn read_kind_and_offset(s: &[u8], at: usize, dialect: Dialect, limits: Limits) -
     KindAndOffsetRead::Refused { why: 11, place: at }
 }
 
-// The tensor of what was read, where its products, its size and the new total fit.
+// The tensor of what was read, where its first length is whole blocks, and its products, its size
+// and the new total fit.
 fn fitting_tensor(
     at: usize,
     total: u64,
@@ -169,10 +169,12 @@ fn fitting_tensor(
     stored: KindAndOffset,
     next: usize,
 ) -> TensorRead
-    requires { ⌜ knownKind (stored .kind) ≡ true ⌝ }
     ensures { λ r. ⌜ asTensor r ≡ run (format.fitting at total name shape stored) [] next ⌝ }
 {
     let kind = stored.kind;
+    if !kinds::whole_blocks(shape.first, kind) {
+        return TensorRead::Refused { why: 17, place: at };
+    }
     let four = [shape.first, shape.second, shape.third, shape.fourth];
     let Bounded::Fits { value: product } = kinds::product(four) else {
         return TensorRead::Refused { why: 13, place: at };
@@ -183,7 +185,6 @@ fn fitting_tensor(
     if GREATEST - total < product {
         return TensorRead::Refused { why: 15, place: at };
     }
-    let block = kinds::block_and_type_size(kind);
     TensorRead::Found {
         tensor: Tensor {
             name,
@@ -191,7 +192,7 @@ fn fitting_tensor(
             kind,
             offset: stored.offset,
             parameters: product,
-            size: kinds::bytes_in(product, block),
+            size: kinds::known_size(product, kind),
         },
         next,
     }
@@ -249,19 +250,19 @@ pub fn tensor_row(tensor: Tensor) -> TensorRow
 }
 
 // The name of a tensor that is there.
-pub fn known_name(s: &[u8], at: usize, dialect: Dialect) -> Span
-    requires { ⌜ isAccepted (run (text dialect) (now s) at) ≡ true ⌝ }
-    ensures { λ r. ⌜ accepted r (r .place + r .len) ≡ run (text dialect) (now (s .entry)) at ⌝ }
+pub fn known_name(s: &[u8], at: usize, version: u64, big: bool) -> Span
+    requires { ⌜ isAccepted (run (text (record { version = version; big = big })) (now s) at) ≡ true ⌝ }
+    ensures { λ r. ⌜ accepted r (r .place + r .len) ≡ run (text (record { version = version; big = big })) (now (s .entry)) at ⌝ }
 {
-    if dialect.version == 1 {
+    if version == 1 {
         Span {
             place: at + 4,
-            len: fields::value_in(s, at, Width::Four, dialect.big) as usize,
+            len: fields::value_in(s, at, Width::Four, big) as usize,
         }
     } else {
         Span {
             place: at + 8,
-            len: fields::value_in(s, at, Width::Eight, dialect.big) as usize,
+            len: fields::value_in(s, at, Width::Eight, big) as usize,
         }
     }
 }
@@ -310,20 +311,18 @@ pub fn known_after_name(s: &[u8], at: usize, big: bool) -> AfterName
 
 // The row of a tensor of which all is known to fit.
 pub fn known_row(name: Span, again: AfterName) -> TensorRow
-    requires { ⌜ knownKind (again .kind) ≡ true ⌝ }
     requires { ⌜ productsFit (lengths (again .shape)) ≡ true ⌝ }
     requires { ⌜ sizeFits (lengths (again .shape)) (again .kind) ≡ true ⌝ }
     ensures { λ r. ⌜ r ≡ tensorRow (tensorOf name again) ⌝ }
 {
     let x = again.shape;
     let parameters = kinds::known_product([x.first, x.second, x.third, x.fourth]);
-    let block = kinds::block_and_type_size(again.kind);
     tensor_row(Tensor {
         name,
         shape: x,
         kind: again.kind,
         offset: again.offset,
         parameters,
-        size: kinds::bytes_in(parameters, block),
+        size: kinds::known_size(parameters, again.kind),
     })
 }

@@ -11,6 +11,21 @@ pub fn number_and_byte(refusal: Refusal) -> (u64, u64) {
     }
 }
 
+/// Each kind whose data takes bytes, by its number, with the numbers and the bytes of a block.
+#[rustfmt::skip]
+pub const BLOCKS: [(u64, u64, u64); 32] = [
+    (0, 1, 4), (1, 1, 2), (2, 32, 18), (3, 32, 20),
+    (6, 32, 22), (7, 32, 24), (8, 32, 34), (9, 32, 36),
+    (10, 256, 84), (11, 256, 110), (12, 256, 144), (13, 256, 176), (14, 256, 210), (15, 256, 292),
+    (16, 256, 66), (17, 256, 74), (18, 256, 98), (19, 256, 50),
+    (20, 32, 18), (21, 256, 110), (22, 256, 82), (23, 256, 136),
+    (24, 1, 1), (25, 1, 2), (26, 1, 4), (27, 1, 8), (28, 1, 8), (29, 256, 56), (30, 1, 2),
+    (34, 256, 54), (35, 256, 66), (39, 32, 17),
+];
+
+/// The kinds whose data takes none. They are read and never written.
+pub const NO_BYTES: [u64; 6] = [31, 32, 33, 36, 37, 38];
+
 pub struct Made {
     pub bytes: Vec<u8>,
     version: u32,

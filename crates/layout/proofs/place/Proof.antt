@@ -1,5 +1,5 @@
--- `layout::place` meets its contract: the kind, the two tests of `kinds::size`, the sum of
--- products, the end and its padding are tested in the order of the definition. Assumes nothing.
+-- `layout::place` meets its contract: the kind, the tests of `kinds::size`, the sum of products, the
+-- end and its padding are tested in the order of the definition. Assumes nothing.
 use borrow.Author.Needs.{needs}
 use borrow.Author.Tests.{not-true, not-false}
 use Prim.Native.Nat.{_+_, _≤_, _<_}

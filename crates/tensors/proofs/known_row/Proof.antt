@@ -4,23 +4,13 @@ use borrow.Author.Tests.{leb-true}
 use Rattle.tensors.proofs.known_row.Statement.{statement}
 use Rattle.tensors.proofs.known_row.Tie as tie
 
-known-product-requires : tie.Need-known-product-requires
-known-product-requires c κs = c .before .pre .1 .0
-
-bytes-in-requires : tie.Need-bytes-in-requires
-bytes-in-requires c κs = rw (c .block-and-type-size .ensures, c .before .known-product .ensures) (leb-true _ _ (c .before .before .before .pre .1 .1))
+known-size-requires : tie.Need-known-size-requires
+known-size-requires c κs = rw (c .known-product .ensures) (leb-true _ _ (c .before .before .pre .1))
 
 returns : tie.Need-returns
 returns c =
-    let b = c .before .before in
-    rw (← b .block-and-type-size .ensures, ← b .before .known-product .ensures, ← c .before .bytes-in .ensures) (c .tensor-row .ensures)
+    let p = c .before .before in
+    rw (← p .known-product .ensures, ← c .before .known-size .ensures) (c .tensor-row .ensures)
 
 pub known-row-spec : {M : Type 1} → statement M
-known-row-spec =
-    tie.close
-    (tie.spec
-    known-product-requires
-    (λ c κs. search needs)
-    bytes-in-requires
-    (λ c κs. search needs)
-    returns)
+known-row-spec = tie.close (tie.spec (λ c κs. c .before .pre .0) known-size-requires (λ c κs. search needs) returns)

@@ -12,7 +12,7 @@ use Rattle.values.specs.Answers.{asText}
 use Rattle.tensors.specs.Answers.{asShape, asKindAndOffset}
 use Rattle.values.proofs.ValueMarks.{under-text}
 use Rattle.tensors.proofs.TensorMarks.{under-shape}
-use Rattle.tensors.proofs.Fitting.{judged, stored-known}
+use Rattle.tensors.proofs.Fitting.{judged}
 use Rattle.tensors.proofs.read_tensor.Statement.{statement}
 use Rattle.tensors.proofs.read_tensor.Tie as tie
 
@@ -33,9 +33,6 @@ kept : (c : tie.After-stored) →
     let a = x .before .before .before .before .before .before .before .before .args in
     accepted (c .stored .given .0 .0) (c .stored .given .0 .1 .0) ≡ run (under (a .limits) (kindAndOffset (a .dialect))) (now (a .s)) (x .shape .given .0 .1 .0)
 kept c = ap asKindAndOffset (sym (c .stored .given .1)) ∙ c .before .before .read-kind-and-offset .ensures
-
-fitted-requires : tie.Need-fitting-tensor-requires
-fitted-requires c κs = stored-known _ _ _ _ (kept (c .before))
 
 returns : tie.Need-returns
 unfolding tensor here under run andThen
@@ -78,7 +75,7 @@ read-tensor-spec =
     (λ c κs. search needs)
     (λ c. search needs)
     (λ c. search needs)
-    fitted-requires
+    (λ c κs. search needs)
     returns
     returns-2
     returns-3
