@@ -15,8 +15,8 @@ block n b = record { numbers = n; bytes = b }
 abbrev pub noKind : Block
 noKind = block 0 0
 
--- kinds 0 to 39, in order, as ggml's own table of types has them. Those of no bytes are read and
--- never written
+-- kinds 0 to 39, in order. Blocks that take bytes are as ggml's own table of types has them; kinds
+-- whose blocks take none are read and never written
 abbrev pub kindTable : List Block
 kindTable =
     block 1 4 ∷ block 1 2 ∷ block 32 18 ∷ block 32 20 ∷ noKind ∷ noKind ∷ block 32 22 ∷ block 32 24 ∷ block 32 34 ∷ block 32 36 ∷
