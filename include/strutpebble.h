@@ -45,6 +45,7 @@ enum {
     SP_PRODUCT_OVERFLOW = 13,     /* a product of lengths above 2^64 - 1 */
     SP_SIZE_OVERFLOW = 14,        /* a size above 2^64 - 1 before its division */
     SP_TOTAL_OVERFLOW = 15,       /* the running total of products above 2^64 - 1 */
+    SP_MISALIGNED = 16,           /* an offset that is not a multiple of the alignment */
     SP_PARTIAL_BLOCK = 17,        /* a first length that is not whole blocks of its kind */
     SP_DATA_START_OVERFLOW = 18,  /* the data would start above 2^64 - 1 */
 
@@ -89,6 +90,7 @@ static inline const char *sp_reason(uint64_t number) {
     case SP_PRODUCT_OVERFLOW: return "the product of the tensor's lengths is above 2^64 - 1";
     case SP_SIZE_OVERFLOW: return "the tensor's size is above 2^64 - 1 before its division";
     case SP_TOTAL_OVERFLOW: return "the tensors up to this one have more than 2^64 - 1 numbers";
+    case SP_MISALIGNED: return "the tensor's offset is not a multiple of the alignment";
     case SP_PARTIAL_BLOCK: return "the tensor's first length is not whole blocks of its kind";
     case SP_DATA_START_OVERFLOW: return "the data would start above 2^64 - 1";
     case SP_PAST_THE_FILE: return "the tensor's data ends after the end of the file";
@@ -136,7 +138,8 @@ typedef struct sp_entry {
 } sp_entry;
 
 /* A tensor. Lengths beyond the dimensions are 1. The offset counts from the start of the data, the
- * size is in bytes. */
+ * size is in bytes. Of an accepted header the start of the data and every offset are multiples of
+ * the alignment, and so is their sum, the tensor's place in the file. */
 typedef struct sp_tensor {
     uint64_t name_place;
     uint64_t name_length;

@@ -1,23 +1,25 @@
 //! One input through both readers, and every result compared.
 
-use crate::domain::{measure, Domain, OTHER_BLOCKS};
+use crate::domain::{measure, number_in, Domain, Walk, OTHER_BLOCKS};
 use crate::inputs::WIDTHS;
 use crate::original::*;
 use crate::questions::Asked;
 use serde_json::Value;
 use std::collections::{BTreeMap, BTreeSet};
 use std::io::Cursor;
-use strutpebble::{file_type, EntryRow, Header, Options, Place, Refusal, Summary, TensorRow};
+use strutpebble::{EntryRow, Header, Options, Place, Refusal, Summary, TensorRow};
 
 const ROWS: usize = 160;
 const UNTOUCHED_ENTRY: EntryRow = [7; 7];
 const UNTOUCHED_TENSOR: TensorRow = [9; 10];
 
-/// What this project's reader said: into tables that were lent, and by the crate's own `read`.
+/// What this project's reader said: into tables that were lent, without tables, and by the crate's
+/// own `read`.
 struct Ours<'a> {
     answer: Result<Summary, Refusal>,
     entries: Vec<EntryRow>,
     tensors: Vec<TensorRow>,
+    measured: Result<Summary, Refusal>,
     header: Result<Header<'a>, Refusal>,
 }
 
@@ -33,7 +35,8 @@ fn ours(bytes: &[u8], cap: u64) -> Ours<'_> {
     let mut entries = vec![UNTOUCHED_ENTRY; ROWS];
     let mut tensors = vec![UNTOUCHED_TENSOR; ROWS];
     let answer = options.read_rows(bytes, &mut entries, &mut tensors);
-    Ours { answer, entries, tensors, header: options.read(bytes) }
+    let (measured, header) = (options.measure(bytes), options.read(bytes));
+    Ours { answer, entries, tensors, measured, header }
 }
 
 /// The number of a reader's refusal, whose place is a byte of the input or the byte after its last.
@@ -110,15 +113,7 @@ fn scalar(kind: u64, bits: u64) -> Value {
 
 /// The kept items of an array, read where its row says that they are.
 fn items(row: &EntryRow, bytes: &[u8], big: bool, version: u32) -> Value {
-    let number = |place: usize, width: usize| {
-        let field = &bytes[place..place + width];
-        let digit = |value: u64, byte: &u8| value << 8 | u64::from(*byte);
-        if big {
-            field.iter().fold(0, digit)
-        } else {
-            field.iter().rev().fold(0, digit)
-        }
-    };
+    let number = |place: usize, width: usize| number_in(&bytes[place..place + width], big);
     let size = if version == 1 { 4 } else { 8 };
     let (kind, kept) = (row[3], row[5]);
     let mut place = row[6] as usize;
@@ -155,6 +150,10 @@ pub struct Agreed {
     outside: BTreeMap<&'static str, u64>,
     /// The kinds of another block that both accepted.
     other_blocks: BTreeSet<u32>,
+    /// The alignments of headers that are refused for a misaligned offset.
+    alignments: BTreeSet<u64>,
+    /// By refusal: how many have a misaligned offset, and are refused for this other reason.
+    also_misaligned: BTreeMap<u64, u64>,
     /// What the questions answered of the same inputs.
     pub asked: Asked,
 }
@@ -166,7 +165,7 @@ impl Agreed {
         let ours = ours(bytes, cap);
         let number = ours.answer.err().map_or(0, |refusal| number_of(refusal, bytes));
         assert!(number == 0 || ours.left_the_tables(), "rows: {bytes:?}");
-        let domain = Domain::of(bytes, ROWS as u64);
+        let Walk { domain, misaligned } = Walk::over(bytes, ROWS as u64);
         if domain == Domain::MoreRecords {
             // The crate has rows for every count, and never gives this refusal.
             assert_eq!(number, 6, "{bytes:?}");
@@ -175,12 +174,20 @@ impl Agreed {
         }
         let own = ours.header.as_ref().map(|header| header.summary());
         assert_eq!(own, ours.answer.as_ref().copied(), "the crate's own rows: {bytes:?}");
+        assert_eq!(ours.measured, ours.answer, "without rows: {bytes:?}");
         // Nothing where the original panics.
         let theirs = std::panic::catch_unwind(|| theirs(bytes, cap)).ok();
         match domain {
             Domain::PartialBlock(place) => self.on_partial_block(&ours, theirs, place, bytes),
             Domain::OtherBlock(kind) => self.on_other_block(&ours, theirs, kind, bytes),
+            Domain::Misaligned { place, other } => {
+                return self.on_misaligned(&ours, theirs, place, other, bytes);
+            }
             _ => self.on_same(&ours, theirs, bytes),
+        }
+        if misaligned.is_some() {
+            assert_ne!(number, 0, "accepted, and an offset is misaligned: {bytes:?}");
+            *self.also_misaligned.entry(number).or_default() += 1;
         }
     }
 
@@ -215,7 +222,7 @@ impl Agreed {
         let refusal = ours.answer.expect_err("accepted, and a tensor is not whole blocks");
         let said = (refusal.number(), refusal.place());
         assert_eq!(said, (17, Place::Prefix(place)), "{bytes:?}");
-        assert_eq!(file_type(bytes), Err(refusal), "{bytes:?}");
+        self.asked.on_own_refusal(bytes, refusal);
         self.one_outside(match theirs {
             None => "partial blocks: here refusal 17, the original panics at a later kind 40",
             Some(Ok(_)) => "partial blocks: here refusal 17, the original accepts",
@@ -251,6 +258,43 @@ impl Agreed {
         self.one_outside(what);
     }
 
+    /// An offset is misaligned, and no other test refuses the input: this project refuses that
+    /// offset, and so does a question. The original accepts, and by its own model, too, this offset
+    /// is the first that is no multiple of the alignment; or it refuses 14 for a larger block.
+    fn on_misaligned(
+        &mut self,
+        ours: &Ours,
+        theirs: Option<Theirs>,
+        place: u64,
+        other: Option<u32>,
+        bytes: &[u8],
+    ) {
+        let refusal = ours.answer.expect_err("accepted, and an offset is misaligned");
+        let said = (refusal.number(), refusal.place());
+        assert_eq!(said, (16, Place::Prefix(place)), "{bytes:?}");
+        self.asked.on_own_refusal(bytes, refusal);
+        let what = match theirs {
+            Some(Ok((model, big))) => {
+                let alignment = model.alignment();
+                let offsets = model.tensors().iter().map(|tensor| tensor.offset);
+                let first = offsets.enumerate().find(|(_, offset)| offset % alignment != 0);
+                let (index, offset) = first.expect("a misaligned offset in the original's model");
+                assert_eq!(offset, number_in(part(bytes, place, 8), big), "{bytes:?}");
+                self.alignments.insert(alignment);
+                if index == 0 {
+                    "misaligned, the first tensor: here refusal 16, the original accepts"
+                } else {
+                    "misaligned, a later tensor: here refusal 16, the original accepts"
+                }
+            }
+            Some(Err(14)) if other.is_some() => {
+                "misaligned, and another block: here refusal 16, the original refuses 14"
+            }
+            _ => panic!("16 here, and the original neither accepts nor refuses 14: {bytes:?}"),
+        };
+        self.one_outside(what);
+    }
+
     fn one_outside(&mut self, what: &'static str) {
         *self.outside.entry(what).or_default() += 1;
     }
@@ -273,6 +317,10 @@ impl Agreed {
             println!("{count:>9}  outside the domain, {what}");
         }
         println!("{:>9}  of the 9 kinds of another block came up", self.other_blocks.len());
+        println!("{:>9}  alignments came up with a misaligned offset", self.alignments.len());
+        for (number, count) in &self.also_misaligned {
+            println!("{count:>9}  of those refused {number} have a misaligned offset too");
+        }
     }
 }
 

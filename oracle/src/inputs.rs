@@ -1,6 +1,7 @@
 //! Headers that are made up, and damaged copies of them. The same seed gives the same inputs.
 
-use crate::domain::{block, OTHER_BLOCKS};
+use crate::domain::{alignment_after_entries, alignment_of, block, OTHER_BLOCKS};
+use std::collections::BTreeSet;
 
 /// A small generator of random numbers (xorshift).
 pub struct Random(u64);
@@ -37,6 +38,10 @@ pub struct Made {
 
 /// The bytes of a scalar of each value type, 0 of a string and an array.
 pub const WIDTHS: [usize; 13] = [1, 1, 2, 2, 4, 4, 4, 1, 0, 0, 8, 8, 8];
+
+/// All versions, each in both byte orders.
+const FORMS: [(u64, bool); 6] =
+    [(1, false), (2, false), (3, false), (1, true), (2, true), (3, true)];
 
 fn number(big: bool, width: usize, value: u64) -> Vec<u8> {
     let mut bytes = value.to_le_bytes()[..width].to_vec();
@@ -107,7 +112,42 @@ fn array(made: &mut Made, random: &mut Random) {
     }
 }
 
+const ALIGNMENT: &[u8] = b"general.alignment";
+
+/// What `general.alignment` may say, as a type and a number: alignments, and what is none, since it
+/// is 0, is not divided by 8, is below 0 or is no integer.
+const ALIGNMENTS: [(u64, u64); 24] = [
+    (4, 8),
+    (4, 24),
+    (4, 32),
+    (4, 64),
+    (0, 248),
+    (1, 120),
+    (2, 4096),
+    (3, 40),
+    (5, 1 << 30),
+    (10, 1 << 33),
+    (10, 1 << 63),
+    (10, u64::MAX - 7),
+    (11, 1 << 62),
+    (4, 0),
+    (4, 12),
+    (10, (1 << 33) + 4),
+    (1, 248),
+    (3, 1 << 15),
+    (5, 1 << 31),
+    (11, 1 << 63),
+    (6, 0x4280_0000),
+    (7, 64),
+    (8, 0),
+    (9, 64),
+];
+
 fn entry(made: &mut Made, random: &mut Random) {
+    if random.below(8) == 0 {
+        let (kind, number) = random.pick(&ALIGNMENTS);
+        return entry_of(made, ALIGNMENT, kind, number, b"64");
+    }
     let key = name(random);
     made.text(&key);
     let kind = if key.starts_with(b"tok") && random.below(2) == 0 { 9 } else { random.below(13) };
@@ -184,11 +224,24 @@ fn tensor_of(made: &mut Made, name: &[u8], kind: u64, lengths: &[u64], offset: u
     made.number(8, offset);
 }
 
-fn tensor(made: &mut Made, random: &mut Random) {
+/// The offset of a tensor: a multiple of the alignment, or else mostly a number that is near one.
+fn offset(alignment: u64, is_aligned: bool, random: &mut Random) -> u64 {
+    let multiple = alignment.checked_mul(random.below(100)).unwrap_or(alignment);
+    if is_aligned {
+        return multiple;
+    }
+    let eights = 8 * random.below(1000);
+    let any = random.next() ^ (random.next() << 40);
+    let steps = [0, 0, 1, 8, alignment / 2, alignment - 1];
+    let near = multiple.wrapping_add(random.pick(&steps));
+    random.pick(&[near, near, near, eights, any])
+}
+
+fn tensor(made: &mut Made, alignment: u64, is_aligned: bool, random: &mut Random) {
     let name = name(random);
     let kind = kind(random);
     let lengths = lengths(kind, random);
-    tensor_of(made, &name, kind, &lengths, 8 * random.below(1000));
+    tensor_of(made, &name, kind, &lengths, offset(alignment, is_aligned, random));
 }
 
 /// For every kind: one tensor of each of these lengths, which are whole blocks or almost.
@@ -199,6 +252,81 @@ pub fn every_kind() -> Vec<Made> {
             let mut made = start(3, false, 1, 0);
             tensor_of(&mut made, b"a", kind, &[length], 0);
             all.push(made);
+        }
+    }
+    all
+}
+
+/// For every version, byte order and alignment: a tensor at offsets about the alignment's
+/// multiples, alone, and with others that are aligned, misaligned or refused for another reason.
+/// Where an alignment is said, another was said before it. The tensors have no names, so that the
+/// smallest header with a misaligned offset is among these.
+pub fn every_offset() -> Vec<Made> {
+    let mut all = vec![];
+    for (version, big) in FORMS {
+        for said in ALIGNMENTS.into_iter().map(Some).chain([None]) {
+            let alignment = said.map_or(32, |(kind, number)| alignment_of(kind, number));
+            for offset in about(alignment) {
+                for tensors in beside(offset, alignment) {
+                    let entries = if said.is_some() { 2 } else { 0 };
+                    let mut made = start(version, big, tensors.len() as u64, entries);
+                    if let Some((kind, number)) = said {
+                        entry_of(&mut made, ALIGNMENT, 4, 16, b"");
+                        entry_of(&mut made, ALIGNMENT, kind, number, b"64");
+                    }
+                    for (kind, lengths, offset) in tensors {
+                        tensor_of(&mut made, b"", kind, &lengths, offset);
+                    }
+                    all.push(made);
+                }
+            }
+        }
+    }
+    all
+}
+
+/// Offsets that are a multiple, or almost one.
+fn about(alignment: u64) -> BTreeSet<u64> {
+    let last = u64::MAX / alignment * alignment;
+    let twice = alignment.wrapping_mul(2);
+    let near = [1, 8, alignment / 2, alignment - 8, alignment - 1, alignment + 1];
+    [0, alignment, twice, last, last + 1, u64::MAX, 1 << 63].into_iter().chain(near).collect()
+}
+
+/// A tensor at an offset, alone and beside others; each by its kind, its lengths and its offset.
+fn beside(offset: u64, alignment: u64) -> [Vec<(u64, Vec<u64>, u64)>; 7] {
+    let one = || (0, vec![], offset);
+    [
+        vec![one()],
+        // Of size 0, and behind aligned ones.
+        vec![(1, vec![], 0), (0, vec![7], alignment), (0, vec![0], offset)],
+        // Of a kind without a size, and before an aligned one.
+        vec![(31, vec![5], offset), (0, vec![], alignment)],
+        // More than one.
+        vec![one(), (1, vec![], offset)],
+        // Before one that is refused 11, 17 or 13: the offset does not matter.
+        vec![one(), (4, vec![], 0)],
+        vec![one(), (2, vec![33], 0)],
+        vec![one(), (0, vec![1 << 32, 1 << 32], offset)],
+    ]
+}
+
+/// For every version and byte order: a hundred and fifty tensors, of which one is misaligned or
+/// none, behind one entry, or behind more than the reader keeps while it tests.
+pub fn many_tensors() -> Vec<Made> {
+    let mut all = vec![];
+    for (version, big) in FORMS {
+        for entries in [1, 100] {
+            for misaligned in [None, Some(0), Some(1), Some(63), Some(64), Some(65), Some(149)] {
+                let mut made = start(version, big, 150, entries);
+                (1..entries).for_each(|_| entry_of(&mut made, b"a", 4, 8, b""));
+                entry_of(&mut made, ALIGNMENT, 4, 64, b"");
+                for index in 0..150 {
+                    let step = if misaligned == Some(index) { 32 } else { 0 };
+                    tensor_of(&mut made, b"", 0, &[], 64 * index + step);
+                }
+                all.push(made);
+            }
         }
     }
     all
@@ -306,7 +434,7 @@ pub fn asked_header(random: &mut Random) -> Made {
 /// `general.architecture`; each behind another entry of its key.
 pub fn every_answer() -> Vec<Made> {
     let mut all = vec![];
-    for (version, big) in [(1, false), (2, false), (3, false), (1, true), (2, true), (3, true)] {
+    for (version, big) in FORMS {
         for kind in 0..13 {
             for (key, numbers) in [(FILE_TYPE, &FILE_TYPES[..]), (ARCHITECTURE, &FILE_TYPES[..1])] {
                 for number in numbers {
@@ -343,7 +471,8 @@ fn start(version: u64, big: bool, tensors: u64, entries: u64) -> Made {
 }
 
 /// A header of any version and byte order, with up to three tensors, and `least` entries or fewer
-/// than `spread` more, each made by `entry`.
+/// than `spread` more, each made by `entry`. Mostly all offsets are aligned, since the readers
+/// differ by intent where one is not.
 fn with_entries(
     random: &mut Random,
     least: u64,
@@ -356,7 +485,10 @@ fn with_entries(
     let entries = least + random.below(spread);
     let mut made = start(version, big, tensors, entries);
     (0..entries).for_each(|_| entry(&mut made, random));
-    (0..tensors).for_each(|_| tensor(&mut made, random));
+    // Where the entries are refused, the offsets are not looked at.
+    let alignment = alignment_after_entries(&made.bytes).unwrap_or(32);
+    let is_aligned = random.below(4) > 0;
+    (0..tensors).for_each(|_| tensor(&mut made, alignment, is_aligned, random));
     made
 }
 

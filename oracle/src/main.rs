@@ -20,7 +20,10 @@ mod writers;
 use original::{FILE_MAGIC_GGUF_LE, GGUF_VERSION_V1, GGUF_VERSION_V2, GGUF_VERSION_V3};
 
 use compare::Agreed;
-use inputs::{asked_header, damaged, every_answer, every_kind, header, long_header, Made, Random};
+use inputs::{
+    asked_header, damaged, every_answer, every_kind, every_offset, header, long_header,
+    many_tensors, Made, Random,
+};
 use questions::Asked;
 
 fn main() {
@@ -52,6 +55,11 @@ fn compare_readers(headers: u64) -> Asked {
     on_short_inputs(&mut agreed);
     for made in every_kind() {
         agreed.on(&made.bytes, 3);
+    }
+    for made in every_offset().into_iter().chain(many_tensors()) {
+        agreed.on(&made.bytes, 3);
+        // Without its last byte it is refused for that (1), whatever the offsets are.
+        agreed.on(&made.bytes[..made.bytes.len() - 1], 3);
     }
     for _ in 0..headers {
         let made = header(&mut random);

@@ -11,7 +11,7 @@ use crate::original::GGUFModel;
 use serde_json::Value;
 use std::collections::BTreeMap;
 use std::panic::{catch_unwind, AssertUnwindSafe};
-use strutpebble::{file_type, model_family, read, Refusal, StringError};
+use strutpebble::{file_type, find, find_string, model_family, read, Refusal, StringError};
 
 /// The names that the original gives to the types of files.
 const NAMES: [&str; 25] = [
@@ -61,6 +61,7 @@ pub struct Asked {
     types: BTreeMap<u64, u64>,
     headers: u64,
     refused: u64,
+    refused_here: u64,
 }
 
 fn one_more(counts: &mut BTreeMap<String, u64>, what: String) {
@@ -80,9 +81,23 @@ impl Asked {
     /// The original has no model to ask where it refuses the header: here both questions give the
     /// reader's refusal.
     pub fn on_refusal(&mut self, bytes: &[u8], refusal: Refusal) {
+        Asked::refuse(bytes, refusal);
+        self.refused += 1;
+    }
+
+    /// A refusal that the original does not have, whatever it says instead. The lookups that it
+    /// does not have either give it too.
+    pub fn on_own_refusal(&mut self, bytes: &[u8], refusal: Refusal) {
+        Asked::refuse(bytes, refusal);
+        assert_eq!(find(bytes, "").err(), Some(refusal), "{bytes:?}");
+        assert_eq!(find_string(bytes, ""), Err(StringError::Refused(refusal)), "{bytes:?}");
+        self.refused_here += 1;
+    }
+
+    /// Panics where one of the two questions does not give the reader's refusal.
+    fn refuse(bytes: &[u8], refusal: Refusal) {
         assert_eq!(model_family(bytes), Err(StringError::Refused(refusal)), "{bytes:?}");
         assert_eq!(file_type(bytes), Err(refusal), "{bytes:?}");
-        self.refused += 1;
     }
 
     fn family(&mut self, bytes: &[u8], model: &GGUFModel) {
@@ -151,6 +166,8 @@ impl Asked {
         println!("{:>9}  of the 25 numbers of file types came up", self.types.len());
         let what = "headers refused by both, and here both questions with the reader's refusal";
         println!("{:>9}  {what}", self.refused);
+        let what = "headers refused here with 16 or 17, and both questions and the lookups alike";
+        println!("{:>9}  {what}", self.refused_here);
         println!("{:>9}  headers asked for both", self.headers);
         println!("{:>9}  answers that agree", self.same.values().sum::<u64>());
         println!("{:>9}  answers that differ by intent", self.by_intent.values().sum::<u64>());

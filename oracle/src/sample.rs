@@ -2,8 +2,8 @@
 //! original said of each, and nothing of this project's reader.
 
 use crate::compare::class;
-use crate::domain::Domain;
-use crate::inputs::{damaged, every_kind, header, Random};
+use crate::domain::{Domain, Walk};
+use crate::inputs::{damaged, every_kind, every_offset, header, Random};
 use crate::original::*;
 use serde_json::Value;
 use std::collections::{BTreeMap, BTreeSet};
@@ -120,6 +120,8 @@ struct Sample {
     cases: Stored,
     seen: BTreeSet<Vec<u8>>,
     taken: BTreeMap<u64, u64>,
+    /// How many have a misaligned offset, and are refused for another reason.
+    misaligned: u64,
 }
 
 impl Sample {
@@ -127,8 +129,8 @@ impl Sample {
     /// its answer. Texts that are not UTF-8 are outside, and show by the mark that the original
     /// puts in their place.
     fn offer(&mut self, bytes: &[u8]) {
-        let inside = Domain::of(bytes, ROWS) == Domain::Inside;
-        if bytes.len() > LONGEST || !inside || self.seen.contains(bytes) {
+        let Walk { domain, misaligned } = Walk::over(bytes, ROWS);
+        if bytes.len() > LONGEST || domain != Domain::Inside || self.seen.contains(bytes) {
             return;
         }
         let Some((class, stored)) = answer(bytes, &self.path) else { return };
@@ -136,6 +138,7 @@ impl Sample {
         let count = self.taken.entry(class).or_default();
         if *count < wanted(class) && !marked {
             *count += 1;
+            self.misaligned += u64::from(misaligned.is_some());
             self.seen.insert(bytes.to_vec());
             self.cases.text(bytes);
             self.cases.text(&stored.0);
@@ -176,12 +179,17 @@ pub fn write(file: &str, scratch: &str) {
         cases: Stored::default(),
         seen: BTreeSet::new(),
         taken: BTreeMap::new(),
+        misaligned: 0,
     };
     sample.offer_magics();
     for made in every_kind() {
         sample.offer(&made.bytes);
     }
+    let offsets = every_offset();
     while !sample.enough() {
+        for _ in 0..4 {
+            sample.offer(&offsets[random.below(offsets.len() as u64) as usize].bytes);
+        }
         let made = header(&mut random);
         sample.offer(&made.bytes);
         for _ in 0..3 {
@@ -197,4 +205,5 @@ pub fn write(file: &str, scratch: &str) {
     all.extend(sample.cases.0);
     std::fs::write(file, &all).expect("the sample's file");
     println!("{cases} answers of the original, {} bytes: {:?}", all.len(), sample.taken);
+    println!("{} of them have a misaligned offset and another reason", sample.misaligned);
 }

@@ -1,10 +1,11 @@
 //! One sheet through both writers, and what they wrote compared up to the start of the data.
 
-use crate::domain::{block, is_written, measure, Domain, OTHER_BLOCKS};
+use crate::compare;
+use crate::domain::{alignment_of, block, is_written, measure, Domain, OTHER_BLOCKS};
 use crate::inputs::{whole_blocks, Random, WIDTHS};
 use crate::writer::{calculate_tensor_size, GGUFWriter, MetadataValue, TensorInfo};
 use std::collections::BTreeMap;
-use strutpebble::{write_header, ByteOrder, Options, Place, Sheet, Type, Value};
+use strutpebble::{read, write_header, ByteOrder, Options, Place, Sheet, Type, Value};
 
 /// The bytes of output that this project's writer is lent, and the most that the original is let
 /// write after a header.
@@ -373,13 +374,10 @@ impl Contents {
     fn has_other_alignment(&self) -> bool {
         let Some(said) = self.entries.get(ALIGNMENT) else { return false };
         let number = match said {
-            Said::One(4, Item::Scalar(bits)) => u64::from(*bits as u32),
-            Said::One(5, Item::Scalar(bits)) => u64::try_from(*bits as i32).unwrap_or(0),
-            Said::One(10, Item::Scalar(bits)) => *bits,
-            _ => 0,
+            Said::One(kind, Item::Scalar(bits)) => alignment_of((*kind).into(), *bits),
+            _ => 32,
         };
-        let is_taken = number > 0 && number.is_multiple_of(8);
-        self.alignment != if is_taken { number } else { 32 }
+        self.alignment != number
     }
 
     /// Where the tensors stand, which are the last that a writer looks at.
@@ -470,15 +468,27 @@ fn class(error: anyhow::Error) -> u64 {
 pub struct Agreed {
     by_number: BTreeMap<u64, u64>,
     by_intent: BTreeMap<String, u64>,
+    /// Both readers on what this project's writer wrote.
+    own: compare::Agreed,
+    /// Both readers on what the original wrote, where this project's writer did not write the same.
+    other: compare::Agreed,
 }
 
 impl Agreed {
-    /// Gives one sheet to both. Panics where they differ otherwise than by intent.
+    /// Gives one sheet to both, and to both readers what was written. Panics where they differ
+    /// otherwise than by intent.
     pub fn on(&mut self, contents: &Contents, path: &str) {
         let sheet = contents.sheet(false);
         assert_eq!(contents.built().bytes().as_ref(), Ok(&sheet), "the crate's sheet");
         let ours = contents.ours(&sheet);
         let theirs = (!contents.has_much_data()).then(|| contents.theirs(path));
+        if let Ok(header) = &ours {
+            assert!(read(header).is_ok(), "refused, and this project wrote it: {sheet:?}");
+            self.own.on(header, 3);
+        }
+        if let Some(Ok(header)) = theirs.as_ref().filter(|theirs| **theirs != ours) {
+            self.other.on(header, 3);
+        }
         match (contents.wanted(), theirs) {
             (Wanted::Refusal(number, what), theirs) => {
                 assert_eq!(ours, Err(number), "{sheet:?}");
@@ -569,5 +579,9 @@ impl Agreed {
         for (what, count) in &self.by_intent {
             println!("{count:>9}  {what}");
         }
+        println!("The readers, on what this project's writer wrote");
+        self.own.print();
+        println!("The readers, on what the original's writer wrote otherwise");
+        self.other.print();
     }
 }

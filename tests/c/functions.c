@@ -123,12 +123,19 @@ static void a_partial_block_is_not_read(void) {
         CHECK(answer[i] == 0);
 }
 
-/* The sheet with its tensor twice, and the second time with another kind and length. */
-static void a_partial_block_is_not_written(void) {
-    uint64_t answer[SP_ANSWER_WORDS];
-    uint8_t twice[2 * sizeof sheet - 1], out[128], before[128];
+enum { TWICE = 2 * sizeof sheet - 1 };
+
+/* The sheet with its tensor twice. */
+static void put_twice(uint8_t twice[TWICE]) {
     memcpy(twice, sheet, sizeof sheet);
     memcpy(twice + sizeof sheet, sheet + 1, sizeof sheet - 1);
+}
+
+/* The second tensor has another kind and length. */
+static void a_partial_block_is_not_written(void) {
+    uint64_t answer[SP_ANSWER_WORDS];
+    uint8_t twice[TWICE], out[128], before[128];
+    put_twice(twice);
     uint8_t *kind = &twice[sizeof twice - 10], *length = &twice[sizeof twice - 1];
     memset(out, 7, sizeof out);
     memcpy(before, out, sizeof out);
@@ -143,6 +150,48 @@ static void a_partial_block_is_not_written(void) {
     *length = 32;
     CHECK(sp_write(twice, sizeof twice, 3, 0, 32, out, sizeof out, answer) == 0);
     CHECK(answer[SP_WRITTEN_END] == 90 && answer[SP_WRITTEN_DATA_START] == 96);
+}
+
+/* Two tensors: the first has its offset at 49, the second its kind at 78 and its offset, which is
+ * the header's last field, at 82. */
+static void a_misaligned_offset_is_not_read(void) {
+    uint64_t answer[SP_ANSWER_WORDS];
+    uint8_t twice[TWICE], file[128];
+    sp_entry entry, entry_before;
+    sp_tensor rows[2], rows_before[2];
+    put_twice(twice);
+    memset(&entry, 7, sizeof entry);
+    memset(rows, 7, sizeof rows);
+    entry_before = entry;
+    memcpy(rows_before, rows, sizeof rows);
+    CHECK(sp_write(twice, sizeof twice, 3, 0, 32, file, sizeof file, answer) == 0);
+    CHECK(sp_measure(file, 90, 3, 39, answer) == 0 && file[82] == 32);
+    file[82] = 33;
+    CHECK(sp_read(file, 90, 3, 39, 3, &entry, 1, rows, 2, answer) == SP_MISALIGNED);
+    CHECK(answer[SP_ANSWER_PLACE] == 82);
+    CHECK(memcmp(&entry, &entry_before, sizeof entry) == 0);
+    CHECK(memcmp(rows, rows_before, sizeof rows) == 0);
+    for (size_t i = 1; i < SP_ANSWER_WORDS; i++)
+        CHECK(answer[i] == 0);
+    CHECK(sp_measure(file, 90, 3, 39, answer) == SP_MISALIGNED && answer[SP_ANSWER_PLACE] == 82);
+    CHECK(sp_find(file, 90, NULL, 0, answer) == SP_MISALIGNED && answer[SP_ANSWER_PLACE] == 82);
+    CHECK(sp_find_string(file, 90, NULL, 0, answer) == SP_MISALIGNED);
+    CHECK(sp_model_family(file, 90, answer) == SP_MISALIGNED);
+    CHECK(sp_file_type(file, 90, answer) == SP_MISALIGNED && answer[SP_ANSWER_PLACE] == 82);
+    /* The first one decides, and after every other check. */
+    file[49] = 8;
+    CHECK(sp_measure(file, 90, 3, 39, answer) == SP_MISALIGNED && answer[SP_ANSWER_PLACE] == 49);
+    CHECK(sp_measure(file, 89, 3, 39, answer) == SP_CUT_OFF && answer[SP_ANSWER_PLACE] == 82);
+    file[78] = 40;
+    CHECK(sp_measure(file, 90, 3, 39, answer) == SP_UNKNOWN_KIND && answer[SP_ANSWER_PLACE] == 78);
+    /* Behind an entry of 33 bytes, which says that the alignment is 64. */
+    CHECK(sp_write(twice, sizeof twice, 3, 0, 64, file, sizeof file, answer) == 0);
+    CHECK(sp_measure(file, 123, 3, 39, answer) == 0 && file[115] == 64);
+    file[115] = 32;
+    CHECK(sp_read(file, 123, 3, 39, 3, &entry, 1, rows, 2, answer) == SP_MISALIGNED);
+    CHECK(answer[SP_ANSWER_PLACE] == 115);
+    CHECK(memcmp(&entry, &entry_before, sizeof entry) == 0);
+    CHECK(memcmp(rows, rows_before, sizeof rows) == 0);
 }
 
 /* The header of the sheet ends at 57. Fewer bytes are cut off; with that many, or more, the answer
@@ -169,16 +218,16 @@ static void more_bytes_change_nothing(void) {
 
 /* Every number has words of its own, and what is no number has others. */
 static void reasons(void) {
-    static const uint64_t numbers[] = {0,  1,  2,   3,   4,   5,  6,  7,  8,  9,  10, 11, 12,
-                                       13, 14, 15,  17,  18,  20, 30, 31, 32, 33, 34, 35, 36,
-                                       37, 38, 100, 101, 102};
+    static const uint64_t numbers[] = {0,  1,  2,  3,   4,   5,  6,  7,  8,  9,  10, 11, 12,
+                                       13, 14, 15, 16,  17,  18, 20, 30, 31, 32, 33, 34, 35,
+                                       36, 37, 38, 100, 101, 102};
     size_t count = sizeof numbers / sizeof *numbers;
     for (size_t i = 0; i < count; i++) {
         CHECK(strcmp(sp_reason(numbers[i]), sp_reason(999)) != 0);
         for (size_t j = 0; j < i; j++)
             CHECK(strcmp(sp_reason(numbers[i]), sp_reason(numbers[j])) != 0);
     }
-    CHECK(strcmp(sp_reason(16), sp_reason(UINT64_MAX)) == 0);
+    CHECK(strcmp(sp_reason(19), sp_reason(UINT64_MAX)) == 0);
 }
 
 static void versions_agree(void) {
@@ -198,6 +247,7 @@ int main(void) {
     sizes_are_those_of_whole_blocks();
     a_partial_block_is_not_read();
     a_partial_block_is_not_written();
+    a_misaligned_offset_is_not_read();
     more_bytes_change_nothing();
     reasons();
     versions_agree();

@@ -20,7 +20,7 @@ pub struct Summary {
     pub entries: usize,
     /// How many tensors there are.
     pub tensors: usize,
-    /// The data starts at a multiple of it.
+    /// The data starts at a multiple of it, and so does the data of each tensor.
     pub alignment: u64,
     /// The place after the last byte of the header.
     pub header_end: u64,

@@ -79,7 +79,8 @@ impl<'a> Tensor<'a> {
         self.shape
     }
 
-    /// Where its data starts, counted from the start of the data.
+    /// Where its data starts, counted from the start of the data: a multiple of the header's
+    /// alignment.
     pub fn offset(&self) -> u64 {
         self.offset
     }
@@ -89,7 +90,8 @@ impl<'a> Tensor<'a> {
         self.size
     }
 
-    /// The bytes of the file that hold its data; `None` where they would end above 2^64 - 1.
+    /// The bytes of the file that hold its data; `None` where they would end above 2^64 - 1. The
+    /// first of them is at a multiple of the header's alignment.
     pub fn range(&self) -> Option<Range<u64>> {
         let start = self.data_start.checked_add(self.offset)?;
         Some(start..start.checked_add(self.size)?)

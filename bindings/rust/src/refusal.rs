@@ -40,6 +40,8 @@ pub enum Reason {
     SizeOverflow,
     /// 15: the products of the tensors so far come to more than 2^64 - 1.
     TotalOverflow,
+    /// 16: a tensor's offset is not a multiple of the header's alignment.
+    Misaligned,
     /// 17: a tensor's first length (1 where it has no dimensions) is not whole blocks of its kind.
     PartialBlock,
     /// 18: the data would start above 2^64 - 1.
@@ -70,7 +72,7 @@ pub enum Reason {
 
 /// Each reason with its number and its words. 13, 14, 15 and 17 are both the reader's and the
 /// writer's, so their words fit a file that is read and a file that is to be written.
-const REASONS: [(Reason, u64, &str); 27] = [
+const REASONS: [(Reason, u64, &str); 28] = [
     (Reason::CutOff, 1, "the header does not end inside these bytes: fetch more"),
     (Reason::OlderFormat, 2, "the file has a format that came before GGUF"),
     (Reason::NotGguf, 3, "this is not a GGUF file"),
@@ -86,6 +88,7 @@ const REASONS: [(Reason, u64, &str); 27] = [
     (Reason::ProductOverflow, 13, "the product of the tensor's lengths is above 2^64 - 1"),
     (Reason::SizeOverflow, 14, "the tensor's size is above 2^64 - 1 before its division"),
     (Reason::TotalOverflow, 15, "the tensors up to this one have more than 2^64 - 1 numbers"),
+    (Reason::Misaligned, 16, "the tensor's offset is not a multiple of the alignment"),
     (Reason::PartialBlock, 17, "the tensor's first length is not whole blocks of its kind"),
     (Reason::DataStartOverflow, 18, "the data would start above 2^64 - 1"),
     (Reason::PastTheFile, 20, "the tensor's data ends after the end of the file"),
@@ -246,7 +249,7 @@ mod tests {
 
     #[test]
     fn every_number_has_its_own_reason_and_words() {
-        let numbers = (1..=15).chain([17, 18, 20]).chain(30..=38);
+        let numbers = (1..=18).chain([20]).chain(30..=38);
         assert!(numbers.eq(REASONS.iter().map(|(_, number, _)| *number)));
         let words: BTreeSet<_> = REASONS.iter().map(|(reason, _, _)| reason.to_string()).collect();
         assert_eq!(words.len(), REASONS.len());
@@ -258,7 +261,7 @@ mod tests {
 
     #[test]
     fn a_number_that_is_not_known() {
-        for number in [0, 16, 19, 21, 29, 39, 100, u64::MAX] {
+        for number in [0, 19, 21, 29, 39, 100, u64::MAX] {
             let refusal = Refusal::of_reader(number, 7);
             assert_eq!((refusal.reason(), refusal.number()), (Reason::Other(number), number));
             assert!(refusal.to_string().contains("does not know"));

@@ -138,7 +138,7 @@ fn a_range_that_no_file_has() {
     // The data starts at 96: both tensors would start above 2^64 - 1.
     let file = made(3, false, 2, 0)
         .tensor("a", &[], 0, u64::MAX - 63)
-        .tensor("b", &[], 0, u64::MAX - 67)
+        .tensor("b", &[], 0, u64::MAX - 95)
         .bytes
         .clone();
     let header = read(&file).unwrap();
@@ -151,15 +151,15 @@ fn a_range_that_no_file_has() {
 
 #[test]
 fn the_last_byte_that_a_file_can_have() {
-    // A tensor of 4 bytes: 64 + offset + 4 = 2^64 - 1.
-    let mut file = made(3, false, 1, 0).tensor("a", &[], 0, u64::MAX - 68).bytes.clone();
+    // A tensor of 31 bytes: 64 + offset + 31 = 2^64 - 1.
+    let mut file = made(3, false, 1, 0).tensor("a", &[31], 24, u64::MAX - 95).bytes.clone();
     let header = read(&file).unwrap();
-    assert_eq!((header.header_end(), header.data_start()), (49, 64));
-    assert_eq!(header.range_of(0), Ok(u64::MAX - 4..u64::MAX));
+    assert_eq!((header.header_end(), header.data_start()), (57, 64));
+    assert_eq!(header.range_of(0), Ok(u64::MAX - 31..u64::MAX));
     assert_eq!(header.check_ranges(u64::MAX), Ok(()));
     assert_eq!(first_outside(&header, u64::MAX - 1), Place::Tensor(0));
-    // One byte further on it would end at 2^64.
-    file[41] += 1;
+    // One byte longer it would end at 2^64.
+    file[37] += 1;
     let header = read(&file).unwrap();
     assert_eq!(header.range_of(0), Err(RangeError::Overflow));
     assert_eq!(first_outside(&header, u64::MAX), Place::Tensor(0));

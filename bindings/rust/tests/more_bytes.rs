@@ -6,7 +6,7 @@ mod made;
 
 use std::fmt::Debug;
 
-use made::{a_and_b, made};
+use made::{a_and_b, a_and_b_at, made};
 use strutpebble::{file_type, find, find_string, measure, model_family};
 use strutpebble::{EntryRow, Options, Refusal, Summary, TensorRow};
 
@@ -64,6 +64,8 @@ fn a_header_and_data_after_it() {
         for big in [false, true] {
             compare(&rich(version, big), 0);
             compare(&[&a_and_b(version, big)[..], &[0xff; 70]].concat(), 0);
+            // Refused, and only once the whole header is there.
+            compare(&[&a_and_b_at(version, big, 33, 32)[..], &[0xff; 70]].concat(), 0);
         }
     }
     let file = rich(3, false);

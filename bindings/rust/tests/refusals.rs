@@ -1,12 +1,12 @@
 //! Every refusal that a small file reaches, with its number and its place.
 //!
 //! In version 3 the first record starts at 24. An entry with a key of one byte has its type at 33;
-//! a tensor with a name of one byte and one length has its dimension count at 33 and its kind at
-//! 45, and ends at 57.
+//! a tensor with a name of one byte and one length has its dimension count at 33, its kind at 45
+//! and its offset at 49, and ends at 57.
 
 mod made;
 
-use made::{a_and_b, made, number_and_byte, BLOCKS, NO_BYTES};
+use made::{a_and_b, a_and_b_at, made, number_and_byte, shortest, Made, BLOCKS, NO_BYTES};
 use strutpebble::{
     file_type, find, find_string, measure, model_family, read, Options, Reason, StringError,
 };
@@ -90,10 +90,11 @@ fn too_few_rows_6() {
 
 #[test]
 fn a_refusal_leaves_the_rows() {
-    // A good entry, and a tensor of a kind that there is not, or of a part of a block.
-    for (kind, wanted) in [(40, (11, 51)), (2, (17, 38))] {
+    // A good entry, and a tensor of a kind that there is not, or of a part of a block, or at an
+    // offset that is not aligned.
+    for (kind, offset, wanted) in [(40, 0, (11, 51)), (2, 0, (17, 38)), (0, 33, (16, 55))] {
         let mut file = made(3, false, 1, 1);
-        file.key("k", 0).number(1, 5).tensor("t", &[], kind, 0);
+        file.key("k", 0).number(1, 5).tensor("t", &[], kind, offset);
         let mut entries = [[7; 7]; 3];
         let mut tensors = [[7; 10]; 3];
         let refusal =
@@ -220,6 +221,124 @@ fn a_partial_block_beside_other_reasons() {
     let file = made(3, false, 2, 0).tensor("t", &[33], 2, 0).bytes.clone();
     assert_eq!(refused(&file[..56]), (1, 49));
     assert_eq!(refused(&file), (17, 24));
+}
+
+#[test]
+fn misaligned_offsets_16() {
+    // In version 1 the first record starts at 16, and a record has 29 bytes.
+    for (version, offset_of_a, offset_of_b) in [(1, 37, 66), (2, 49, 82), (3, 49, 82)] {
+        for big in [false, true] {
+            for bad in [1, 8, 16, 31, 33, 48, (1 << 32) + 16, (1 << 56) - 1, u64::MAX] {
+                assert_eq!(refused(&a_and_b_at(version, big, 0, bad)), (16, offset_of_b));
+                assert_eq!(refused(&a_and_b_at(version, big, bad, 0)), (16, offset_of_a));
+                // The first of two decides.
+                assert_eq!(refused(&a_and_b_at(version, big, bad, bad)), (16, offset_of_a));
+            }
+            for good in [0, 32, 96, 1 << 56, u64::MAX - 31] {
+                assert!(read(&a_and_b_at(version, big, good, good)).is_ok(), "offset {good}");
+            }
+        }
+    }
+    let refusal = read(&a_and_b_at(3, false, 0, 33)).unwrap_err();
+    assert_eq!(refusal.reason(), Reason::Misaligned);
+    let words = "refused 16 at byte 82: the tensor's offset is not a multiple of the alignment";
+    assert_eq!((refusal.to_string().as_str(), refusal.wants_more()), (words, false));
+    // Tensors of size 0 are no exception.
+    for (kind, length) in NO_BYTES.map(|kind| (kind, 33)).into_iter().chain([(0, 0), (2, 0)]) {
+        let mut file = made(3, false, 1, 0);
+        assert_eq!(refused(&file.tensor("t", &[length], kind, 33).bytes), (16, 49), "kind {kind}");
+    }
+}
+
+/// Whether a header's last tensor, which this adds, is refused for its offset and at it.
+fn is_misaligned(mut file: Made, offset: u64) -> bool {
+    let place = file.tensor("t", &[1], 0, offset).bytes.len() as u64 - 8;
+    let is_refused = read(&file.bytes).is_err();
+    assert!(!is_refused || refused(&file.bytes) == (16, place));
+    is_refused
+}
+
+#[test]
+fn the_alignment_of_the_whole_header_decides() {
+    // The last of equal keys decides; what is unusable means 32.
+    for (values, bad, good) in [
+        (&[][..], 16, 32),
+        (&[64], 32, 64),
+        (&[8, 64], 8, 64),
+        (&[64, 8], 12, 8),
+        (&[64, 12], 16, 32),
+        (&[8, 0], 8, 32),
+        (&[24], 32, 120),
+        (&[1 << 20], 1 << 19, 3 << 20),
+    ] {
+        for (offset, wanted) in [(bad, true), (good, false), (0, false)] {
+            let mut file = made(3, false, 1, values.len() as u64);
+            for value in values {
+                file.key("general.alignment", 4).number(4, *value);
+            }
+            assert_eq!(is_misaligned(file, offset), wanted, "{values:?}, offset {offset}");
+        }
+    }
+    // The greatest alignment that there is leaves two offsets.
+    let greatest = u64::MAX - 7;
+    for (offset, wanted) in
+        [(0, false), (8, true), (1 << 63, true), (greatest - 8, true), (greatest, false)]
+    {
+        let mut file = made(3, false, 1, 1);
+        file.key("general.alignment", 10).number(8, greatest);
+        assert_eq!(is_misaligned(file, offset), wanted, "offset {offset}");
+    }
+}
+
+/// The front of a header of two tensors, up to the end of the first, which is misaligned.
+fn misaligned_first() -> Made {
+    let mut file = made(3, false, 2, 0);
+    file.tensor("a", &[5], 0, 33);
+    file
+}
+
+#[test]
+fn a_misaligned_offset_after_all_other_reasons() {
+    assert_eq!(refused(&misaligned_first().size(u64::MAX).bytes), (7, 57));
+    assert_eq!(refused(&misaligned_first().text("b").number(4, 5).bytes), (10, 66));
+    for (kind, lengths, wanted) in [
+        (40, &[3][..], (11, 78)),
+        (2, &[33], (17, 57)),
+        (0, &[1 << 32, 1 << 32], (13, 57)),
+        (0, &[1 << 62], (14, 57)),
+        (24, &[u64::MAX], (15, 57)),
+        (0, &[3], (16, 49)),
+    ] {
+        assert_eq!(refused(&misaligned_first().tensor("b", lengths, kind, 32).bytes), wanted);
+    }
+    // In one tensor too.
+    assert_eq!(refused(&made(3, false, 1, 0).tensor("t", &[1], 40, 33).bytes), (11, 45));
+    let file = a_and_b_at(3, false, 33, 32);
+    assert_eq!(number_and_byte(Options::new().highest_kind(0).read(&file).unwrap_err()), (12, 78));
+    let answer = Options::new().read_rows(&file, &mut [], &mut [[7; 10]]);
+    assert_eq!(number_and_byte(answer.unwrap_err()), (6, 8));
+    // The header has to be there to its last byte.
+    for end in 0..file.len() {
+        assert_eq!(refused(&file[..end]).0, 1, "{end} bytes");
+    }
+    assert_eq!(refused(&file), (16, 49));
+}
+
+#[test]
+fn a_misaligned_offset_leaves_the_rows() {
+    // Up to 64 entries are kept while the header is tested, and more are passed again.
+    for count in [0, 1, 64, 65, 100] {
+        for (version, big) in [(1, true), (3, false)] {
+            let mut file = shortest(version, big, 3, count);
+            let offset = file.len() - 8;
+            file[offset + if big { 7 } else { 0 }] = 33;
+            let mut entries = vec![[7; 7]; 100];
+            let mut tensors = [[7; 10]; 5];
+            let refusal = Options::new().read_rows(&file, &mut entries, &mut tensors).unwrap_err();
+            assert_eq!(number_and_byte(refusal), (16, offset as u64));
+            assert_eq!((entries, tensors), (vec![[7; 7]; 100], [[7; 10]; 5]));
+        }
+    }
 }
 
 #[test]

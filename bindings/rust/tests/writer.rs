@@ -220,6 +220,36 @@ fn tensors_of_whole_blocks() {
 }
 
 #[test]
+fn what_is_written_is_aligned() {
+    // Sizes of every remainder, and of no bytes.
+    let sheet = [5, 0, 31, 0, 1, 64, 33, 7, 4097, 2, 0]
+        .into_iter()
+        .fold(Sheet::new(), |sheet, length| sheet.tensor("t", Kind::I8, &[length]));
+    for alignment in [8, 16, 24, 32, 40, 64, 4096, 1 << 16] {
+        let own = sheet.clone().entry("general.alignment", Value::U64(alignment));
+        for (version, order) in [(1, LITTLE), (2, BIG), (3, LITTLE), (3, BIG)] {
+            let options = WriteOptions::new().version(version).byte_order(order);
+            for sheet in [&sheet, &own] {
+                let mut file = options.alignment(alignment).to_vec(sheet).unwrap();
+                let header = read(&file).unwrap();
+                assert_eq!((header.alignment(), header.tensors().len()), (alignment, 11));
+                for tensor in header.tensors() {
+                    assert_eq!(tensor.offset() % alignment, 0);
+                    assert_eq!(tensor.range().unwrap().start % alignment, 0);
+                }
+                // One byte further on, the last one would not be.
+                let offset = header.header_end() - 8;
+                let lowest = offset as usize + if order == BIG { 7 } else { 0 };
+                file[lowest] += 1;
+                let refusal = read(&file).unwrap_err();
+                assert_eq!(refusal.reason(), Reason::Misaligned);
+                assert_eq!(refusal.place(), Place::Prefix(offset));
+            }
+        }
+    }
+}
+
+#[test]
 fn sheets_that_cannot_be_made() {
     let mixed = Sheet::new().array("m", Type::U8, [Value::U8(1), Value::I8(1)]);
     let other_type =

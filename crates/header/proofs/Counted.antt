@@ -3,17 +3,14 @@
 use Prim.Native.Nat.{ℕ, _≤_}
 use mathlib.Core.Path.{_≡_}
 use mathlib.Core.List.{List}
-use lib.Dec.{leb}
 use lib.ListN.{length}
 use Rattle.reading.specs.Back.{Sure}
-use Rattle.reading.specs.Each.{fold}
 use Rattle.reading.specs.Reading.{accepted}
 use Rattle.reading.specs.declared.Limits.{Limits}
-use Rattle.reading.proofs.SureLaws.{sure-then, sure-done, sure-here, sure-check, sure-each, sure-under, whatever}
-use Rattle.kinds.specs.Shape.{greatest}
-use Rattle.layout.specs.Padding.{padded}
+use Rattle.reading.proofs.SureLaws.{sure-then, sure-here, sure-each, sure-under, whatever}
 use Rattle.header.specs.Answers.{readerRun}
-use Rattle.header.specs.Format.{latest, FullHeader, header}
+use Rattle.header.specs.Format.{FullHeader, header}
+use Rattle.header.proofs.Judged.{sure-judged}
 use Rattle.start.specs.declared.Rooms.{Rooms}
 use Rattle.start.proofs.RowsForCounts.{sure-start}
 
@@ -30,8 +27,7 @@ sure-counted rooms cap s p =
     sure-then (sure-start rooms s p) (λ c q room.
     sure-then (sure-each {P = λ z a. Unit {0}} _ _ (λ z r. whatever) (c .entries) tt q) (λ es r n.
     sure-then (sure-each {P = λ z a. Unit {0}} _ _ (λ z u. whatever) (c .tensors) 0 r) (λ ts e m.
-    sure-here _ (sure-check (leb (padded (fold latest 32 es) e) greatest) 18 e _ (λ fits.
-    sure-done (record { entries = n .0; tensors = m .0; entryRoom = room .0; tensorRoom = room .1 }))))))
+    sure-here _ (sure-judged c es ts e (λ tested. record { entries = n .0; tensors = m .0; entryRoom = room .0; tensorRoom = room .1 })))))
 
 -- with any ceilings, cap and tables
 pub counted : (limits : Limits) (cap : ℕ) (es ts : List (List ℕ)) (s : List ℕ) {w : FullHeader} {q : ℕ} → accepted w q ≡ readerRun limits cap es ts s

@@ -4,7 +4,7 @@ use Prim.Native.Nat.{ℕ}
 use mathlib.Core.Path.{_≡_, refl}
 use mathlib.Core.List.{List, [], _∷_, _++_}
 use Rattle.reading.specs.Ceilings.{under, full}
-use Rattle.reading.specs.Each.{each}
+use Rattle.reading.specs.Each.{each, checkEach}
 use Rattle.reading.specs.Reading.{Answer, refused, run, here, _>>=_}
 use Rattle.reading.specs.declared.Limits.{Limits}
 use Rattle.fields.specs.Value.{number}
@@ -97,6 +97,11 @@ gives-14 = refl
 pub gives-15 : reads full (file 2 0 (long 128 24 ++ long 128 24)) ≡ refused 15 44
 unfolding run under header start magic version counts size number here _>>=_ each tensor text textLooking shape lengthsOf lengthAt kindAndOffset blockOf
 gives-15 = refl
+
+-- a tensor with no name and no dimensions, of kind 0, at offset 1
+pub gives-16 : reads full (file 1 0 (0 ∷ 0 ∷ 0 ∷ 0 ∷ 0 ∷ 0 ∷ 0 ∷ 0 ∷ 0 ∷ 0 ∷ 0 ∷ 0 ∷ 1 ∷ 0 ∷ 0 ∷ 0 ∷ 0 ∷ 0 ∷ 0 ∷ 0 ∷ [])) ≡ refused 16 28
+unfolding run under header start magic version counts size number here _>>=_ each checkEach tensor text textLooking shape lengthsOf lengthAt kindAndOffset blockOf
+gives-16 = refl
 
 -- a tensor of kind 2, in blocks of 32, with no name and no dimensions
 pub gives-17 : reads full (file 1 0 (0 ∷ 0 ∷ 0 ∷ 0 ∷ 0 ∷ 0 ∷ 0 ∷ 0 ∷ 2 ∷ 0 ∷ 0 ∷ 0 ∷ 0 ∷ 0 ∷ 0 ∷ 0 ∷ 0 ∷ 0 ∷ 0 ∷ 0 ∷ [])) ≡ refused 17 16

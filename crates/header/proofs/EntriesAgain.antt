@@ -7,7 +7,7 @@ use Rattle.reading.specs.Ceilings.{under}
 use Rattle.reading.specs.Each.{times}
 use Rattle.reading.specs.Reading.{Answer, accepted, run, seen}
 use Rattle.reading.specs.declared.Limits.{Limits}
-use Rattle.reading.proofs.SureLaws.{sure-then, sure-done, sure-here, sure-run, sure-under, whatever}
+use Rattle.reading.proofs.SureLaws.{sure-then, sure-here, sure-run, sure-under, whatever}
 use Rattle.reading.proofs.Repetition.{seen-accepted}
 use Rattle.values.specs.Format.{entry}
 use Rattle.values.specs.declared.Entry.{Entry}
@@ -16,6 +16,7 @@ use Rattle.header.specs.Format.{FullHeader, header}
 use Rattle.header.specs.declared.Header.{Header}
 use Rattle.start.specs.declared.Rooms.{Rooms}
 use Rattle.start.proofs.StartEnds.{begins, start-ends}
+use Rattle.header.proofs.Judged.{sure-judged}
 
 module _ (s : List ℕ) where
   -- the entries of a header, read from what it says
@@ -26,7 +27,7 @@ module _ (s : List ℕ) where
   unfolding header
   entries-there rooms cap =
       sure-then (start-ends s rooms) (λ c p at. sure-then (sure-run whatever) (λ es q read. sure-then whatever (λ ts e u.
-      sure-here _ (sure-then whatever (λ x o y. sure-done (q, read .1 ∙ ap (λ z. run (times (c .entries) (entry (c .dialect) cap)) s z) at))))))
+      sure-here _ (sure-judged c es ts e (λ tested. (q, read .1 ∙ ap (λ z. run (times (c .entries) (entry (c .dialect) cap)) s z) at))))))
 
 -- all that is known where a reader tells h: the whole run, and its entries, which are there to be
 -- read again

@@ -9,7 +9,7 @@ use lib.ListN.{take, replicate}
 use Rattle.fields.specs.Bytes.{little, bytesOf, Within}
 use Rattle.reading.specs.Back.{bytesOfAll}
 use Rattle.reading.specs.Ceilings.{under, full}
-use Rattle.reading.specs.Each.{each}
+use Rattle.reading.specs.Each.{each, checkEach}
 use Rattle.reading.specs.Reading.{accepted, refused, run, here, seen, _>>=_}
 use Rattle.fields.specs.Value.{number}
 use Rattle.header.specs.Answers.{Outcome, readerRun, readerOutcome}
@@ -71,32 +71,32 @@ flat p k n o b = record {
 
 -- 24 bytes, and the data after 32
 pub no-records : readerRun full 0 [] [] empty3 ≡ accepted (record { head = plain 3 0 24 32; entries = []; tensors = [] }) 24
-unfolding run under each header magic version start counts size number here _>>=_
+unfolding run under each header checkEach magic version start counts size number here _>>=_
 no-records = refl
 
 -- 16 bytes, and the data after 32
 pub no-records-1 : readerRun full 0 [] [] empty1 ≡ accepted (record { head = plain 1 0 16 32; entries = []; tensors = [] }) 16
-unfolding run under each header magic version start counts size number here _>>=_
+unfolding run under each header checkEach magic version start counts size number here _>>=_
 no-records-1 = refl
 
 -- 90 bytes, and the data after 96: 20 bytes and 6
 pub two-tensors : readerRun full 0 [] ([] ∷ [] ∷ []) tensors3 ≡ accepted (record { head = plain 3 2 90 96; entries = []; tensors = flat 32 0 5 0 20 ∷ flat 65 1 3 32 6 ∷ [] }) 90
-unfolding run under each header magic version start counts size number here _>>=_ tensor text textLooking shape lengthsOf lengthAt kindAndOffset blockOf
+unfolding run under each header checkEach magic version start counts size number here _>>=_ tensor text textLooking shape lengthsOf lengthAt kindAndOffset blockOf
 two-tensors = refl
 
 -- 74 bytes, and the data after 96: 20 bytes and 6
 pub two-tensors-1 : readerRun full 0 [] ([] ∷ [] ∷ []) tensors1 ≡ accepted (record { head = plain 1 2 74 96; entries = []; tensors = flat 20 0 5 0 20 ∷ flat 49 1 3 32 6 ∷ [] }) 74
-unfolding run under each header magic version start counts size number here _>>=_ tensor text textLooking shape lengthsOf lengthAt kindAndOffset blockOf
+unfolding run under each header checkEach magic version start counts size number here _>>=_ tensor text textLooking shape lengthsOf lengthAt kindAndOffset blockOf
 two-tensors-1 = refl
 
 -- one row is too few, and the place is that of the count
 pub one-row : readerRun full 0 [] ([] ∷ []) tensors3 ≡ refused 6 8
-unfolding run under each header magic version start counts size number here _>>=_
+unfolding run under each header checkEach magic version start counts size number here _>>=_
 one-row = refl
 
 -- a byte less, and the last offset is not wholly there
 pub a-byte-less : readerRun full 0 [] ([] ∷ [] ∷ []) (take 89 tensors3) ≡ refused 1 82
-unfolding run under each header magic version start counts size number here _>>=_ tensor text textLooking shape lengthsOf lengthAt kindAndOffset blockOf
+unfolding run under each header checkEach magic version start counts size number here _>>=_ tensor text textLooking shape lengthsOf lengthAt kindAndOffset blockOf
 a-byte-less = refl
 
 -- What more bytes change, of a and b in version 3, with three rows for tensors that hold zeros.
@@ -114,17 +114,17 @@ bothAB = record { answer = accepted (plain 3 2 90 96) 90; entries = []; tensors 
 
 -- all but the last byte of the header
 pub header-cut-off : readerOutcome full 3 [] (replicate 3 unused) (take 89 tensors3) ≡ nothingRead 1 82
-unfolding run seen under each header magic version start counts size number here _>>=_ tensor text textLooking shape lengthsOf lengthAt kindAndOffset blockOf
+unfolding run seen under each header checkEach magic version start counts size number here _>>=_ tensor text textLooking shape lengthsOf lengthAt kindAndOffset blockOf
 header-cut-off = refl
 
 -- the 90 bytes of the header
 pub header-alone : readerOutcome full 3 [] (replicate 3 unused) tensors3 ≡ bothAB
-unfolding run seen under each header magic version start counts size number here _>>=_ tensor text textLooking shape lengthsOf lengthAt kindAndOffset blockOf
+unfolding run seen under each header checkEach magic version start counts size number here _>>=_ tensor text textLooking shape lengthsOf lengthAt kindAndOffset blockOf
 header-alone = refl
 
 -- the whole file: the gap of 6 bytes before the data, and 38 bytes of data
 pub header-and-data : readerOutcome full 3 [] (replicate 3 unused) (tensors3 ++ replicate 6 0 ++ replicate 38 255) ≡ bothAB
-unfolding run seen under each header magic version start counts size number here _>>=_ tensor text textLooking shape lengthsOf lengthAt kindAndOffset blockOf
+unfolding run seen under each header checkEach magic version start counts size number here _>>=_ tensor text textLooking shape lengthsOf lengthAt kindAndOffset blockOf
 header-and-data = refl
 
 -- eight bytes are enough to refuse version 4, and more of them say the same
@@ -139,7 +139,7 @@ version-4-and-more = refl
 -- big-endian, version 3, no records
 pub big-end : readerRun full 0 [] [] (70 ∷ 85 ∷ 71 ∷ 71 ∷ 0 ∷ 0 ∷ 0 ∷ 3 ∷ 0 ∷ 0 ∷ 0 ∷ 0 ∷ 0 ∷ 0 ∷ 0 ∷ 0 ∷ 0 ∷ 0 ∷ 0 ∷ 0 ∷ 0 ∷ 0 ∷ 0 ∷ 0 ∷ [])
     ≡ accepted (record { head = record { version = 3; big = true; entries = 0; tensors = 0; alignment = 32; end = 24; start = 32 }; entries = []; tensors = [] }) 24
-unfolding run under each header magic version start counts size number here _>>=_
+unfolding run under each header checkEach magic version start counts size number here _>>=_
 big-end = refl
 
 -- version 3 with one entry: "general.alignment", of type u32, is 64
@@ -151,7 +151,7 @@ pub own-alignment : readerRun full 0 ([] ∷ []) []
       entries = record { key = record { place = 32; len = 17 }; «is_alignment» = true; value = Single (U32 64) } ∷ [];
       tensors = [];
     }) 57
-unfolding run under each header magic version start counts size number here _>>=_ entry key textLooking value type valueOf scalarWidth
+unfolding run under each header checkEach magic version start counts size number here _>>=_ entry key textLooking value type valueOf scalarWidth
 own-alignment = refl
 
 -- The two tensors as a sheet.
@@ -191,6 +191,7 @@ fits-two = record {
     (record { name = omega arith; shape = fits-shape 3 (omega arith); kind = omega arith; offset = omega arith; known = refl; whole = refl; products = refl; size = refl; measured = refl; total = omega arith }, tt),
   );
   start = omega arith;
+  aligned = (refl, (refl, tt));
 }
 
 pub two-back : (r : List ℕ) → seen (summaryIn (tensors3 ++ r)) (readerRun full 0 [] ([] ∷ [] ∷ []) (tensors3 ++ r))

@@ -2,28 +2,31 @@
 -- data, in every version and byte order. Assumes nothing.
 use Prim.Native.Nat.{ℕ, _+_, _≤_}
 use mathlib.Core.Path.{_≡_, sym, ap, subst, _∙_}
-use mathlib.Core.List.{List, [], _++_, map, append-assoc, append-nil}
+use mathlib.Core.Bool.{true}
+use mathlib.Core.List.{List, [], _∷_, _++_, map, append-assoc, append-nil}
+use native.Mathlib.Omega.{arith}
 use native.Mathlib.Nat.{zero-add}
 use lib.ListN.{length, length-append}
-use lib.Dec.{leb}
 use borrow.Author.Tests.{le-leb}
-use Rattle.reading.specs.Back.{same, Back, Sure, bytesOfAll}
+use Rattle.reading.specs.Back.{same, Back, All, Sure, bytesOfAll}
 use Rattle.reading.specs.Each.{times, fold}
-use Rattle.reading.specs.Reading.{Reading, done, Answer, accepted, refused, run, _>>=_, _>>_, check, seen}
+use Rattle.reading.specs.Reading.{Reading, Answer, accepted, refused, run, _>>=_, seen}
 use Rattle.reading.proofs.BackLaws.{stands-first, follows, exactly, at-place, nothing-more, checked, shown}
+use Rattle.reading.proofs.EachChecked.{checked-each}
 use Rattle.kinds.specs.Shape.{greatest}
 use Rattle.reading.specs.Ceilings.{full}
 use Rattle.header.specs.Answers.{readerRun}
 use Rattle.values.specs.Contents.{FlaggedEntry, flaggedEntry, entryBytes, flaggedEntryOf}
-use Rattle.tensors.specs.Contents.{tensorBytes, tensorContent}
+use Rattle.tensors.specs.Contents.{TensorContent, tensorBytes, tensorContent}
+use Rattle.tensors.specs.Format.{offsetPlace}
 use Rattle.values.specs.Format.{entry}
 use Rattle.tensors.proofs.TensorsBack.{tensors-back}
 use Rattle.values.proofs.ValuesBack.{entries-back}
-use Rattle.layout.specs.Padding.{padded}
+use Rattle.layout.specs.Padding.{isMultiple, padded}
 use Rattle.header.specs.Contents.{Contents, startIn, headerBytes, alignmentIn, Summary, summaryOf, summaryIn, FitsContents}
 use Rattle.start.specs.Contents.{startBytes}
 use Rattle.start.specs.Format.{version, start}
-use Rattle.header.specs.Format.{latest, headerOf, header}
+use Rattle.header.specs.Format.{latest, isAligned, judged, header}
 use Rattle.header.proofs.HeaderCeilings.{full-reader}
 use Rattle.header.proofs.AlignmentFound.{sure-entries-say, same-alignment, same-entries}
 use Rattle.start.specs.declared.Rooms.{Rooms}
@@ -56,6 +59,17 @@ module _ {s : List ℕ} where
       → Back s view m p l c → ((a : A) → view a ≡ c → Back s view′ (f a) (p + length l) [] d) → Back s view′ (m >>= f) p l d
   closing {view′ = view′} {m} {f} {p} {l} {d = d} last then = subst (λ x. Back s view′ (m >>= f) p x d) (append-nil l) (follows last then)
 
+-- tensors that are shown as contents have the offsets of those
+aligned-too : (s : List ℕ) (a : ℕ) (ts : List Tensor) (cs : List TensorContent) → map (tensorContent s) ts ≡ cs → All (λ (t : TensorContent). isMultiple a (t .offset) ≡ true) cs
+    → All (λ (t : Tensor). isAligned a t ≡ true) ts
+aligned-too s a [] cs f h = tt
+aligned-too s a (t ∷ ts) [] f h = let z : _≡_ {A = ℕ} 0 1 = cc in absurd (omega arith)
+aligned-too s a (t ∷ ts) (x ∷ cs) f h =
+    let first : tensorContent s t ≡ x = cc in
+    let others : map (tensorContent s) ts ≡ cs = cc in
+    let offset : t .offset ≡ x .offset = ap (λ (y : TensorContent). y .offset) first in
+    (rw offset (h .0), aligned-too s a ts cs others (h .1))
+
 module _ (rooms : Rooms) (cap : ℕ) (k : Dialect) (c : Contents) (fits : FitsContents rooms k c) where
   start-back : {s : List ℕ} (p : ℕ) → Back s same (start rooms) p (startBytes (startIn k c)) (startIn k c)
   unfolding start startBytes
@@ -69,13 +83,13 @@ module _ (rooms : Rooms) (cap : ℕ) (k : Dialect) (c : Contents) (fits : FitsCo
   aligned-back s p =
       knowing (fold latest 32) (entries-back k cap (c .entries) (fits .entries) p) (sure-entries-say k s cap _ p) (λ es says e. same-alignment k s es (c .entries) 32 e says)
 
-  -- the last test, and what is told
+  -- the last tests, and what is told
   told-back : {s : List ℕ} (es : List Entry) (ts : List Tensor) (u : ℕ) → u ≡ length (headerBytes k c) → map (flaggedEntryOf k s) es ≡ map flaggedEntry (c .entries)
-      → fold latest 32 es ≡ alignmentIn (c .entries) → map (tensorContent s) ts ≡ c .tensors
-      → Back s (summaryIn s) (check (leb (padded (fold latest 32 es) u) greatest) 18 u >> done (record { head = headerOf (startIn k c) (fold latest 32 es) u; entries = es; tensors = ts })) u [] (summaryOf k c)
+      → fold latest 32 es ≡ alignmentIn (c .entries) → map (tensorContent s) ts ≡ c .tensors → Back s (summaryIn s) (judged (startIn k c) es ts u) u [] (summaryOf k c)
   told-back {s} es ts u at e a f =
       let fit : padded (fold latest 32 es) u ≤ greatest = rw (a, at) (fits .start) in
-      checked 18 u (le-leb _ _ fit) (nothing-more (rw (a, at, same-entries k s es (c .entries) e, f)))
+      let multiples : All (λ (t : Tensor). isAligned (fold latest 32 es) t ≡ true) ts = rw a (aligned-too s (alignmentIn (c .entries)) ts (c .tensors) f (fits .aligned)) in
+      checked 18 u (le-leb _ _ fit) (checked-each (isAligned (fold latest 32 es)) 16 offsetPlace ts multiples (nothing-more (rw (a, at, same-entries k s es (c .entries) e, f))))
 
   header-length : 0 + length (startBytes (startIn k c)) + length (bytesOfAll (entryBytes k) (c .entries)) + length (bytesOfAll (tensorBytes k) (c .tensors)) ≡ length (headerBytes k c)
   unfolding headerBytes

@@ -6,17 +6,14 @@ use mathlib.Core.List.{List}
 use mathlib.Core.Bool.{true, false}
 use native.Mathlib.Omega.{arith}
 use lib.ListN.{length}
-use lib.Dec.{leb}
 use Rattle.reading.specs.Ceilings.{tooNew, Mark, marks, orTooNew, allWithin, FirstAbove, Low, full}
-use Rattle.reading.specs.Each.{fold}
 use Rattle.reading.specs.Reading.{Reading, accepted, refused, run, seen}
-use Rattle.reading.proofs.CeilingLaws.{ceilings, unhindered, first-refused, first-above, let-through, low-run, low-bind, low-done, low-here, low-checked, low-each}
-use Rattle.kinds.specs.Shape.{greatest}
+use Rattle.reading.proofs.CeilingLaws.{ceilings, unhindered, first-refused, first-above, let-through, low-run, low-bind, low-here, low-each}
 use Rattle.header.specs.Answers.{readerRun, Outcome, outcomeOf, readerOutcome}
 use Rattle.values.proofs.ValueMarks.{low-entry}
 use Rattle.tensors.proofs.TensorMarks.{low-tensor}
-use Rattle.layout.specs.Padding.{padded}
-use Rattle.header.specs.Format.{latest, FullHeader, header}
+use Rattle.header.specs.Format.{FullHeader, header}
+use Rattle.header.proofs.Judged.{low-judged}
 use Rattle.start.specs.declared.Rooms.{Rooms}
 use Rattle.reading.specs.declared.Limits.{Limits}
 use Rattle.start.proofs.StartMarks.{low-start}
@@ -27,7 +24,7 @@ module _ (l : Limits) (versions : 3 ≤ l .versions) (kinds : 39 ≤ l .kinds) w
   low-header rooms cap =
       low-bind l _ _ (low-start l versions rooms) (λ c. low-bind l _ _ (low-each l _ _ (λ z. low-entry l (c .dialect) cap) (c .entries) tt) (λ es.
       low-bind l _ _ (low-each l _ _ (low-tensor l kinds (c .dialect)) (c .tensors) 0) (λ ts. low-bind l _ _ (low-here l) (λ e.
-      low-checked l (leb (padded (fold latest 32 es) e) greatest) 18 e _ (λ h. low-done l _)))))
+      low-judged c es ts e l))))
 
 -- the program of a reader with these tables
 abbrev pub tabled : ℕ → List (List ℕ) → List (List ℕ) → Reading FullHeader

@@ -1,18 +1,17 @@
--- The refusals of a whole header: those of its parts; 6 where there are too few rows, and 18 from
--- its last test alone. Assumes nothing.
+-- The refusals of a whole header: those of its parts and of its offsets; 6 where there are too few
+-- rows, and 18 where the data's start does not fit. Assumes nothing.
 use Prim.Native.Nat.{ℕ, _≤_, _<_}
 use mathlib.Core.Path.{_≡_, refl, sym, ap, _∙_}
 use mathlib.Core.List.{List, [], _∷_}
 use mathlib.Core.Bool.{true, false}
 use native.Mathlib.Omega.{arith}
 use lib.ListN.{length}
-use lib.Dec.{leb}
-use borrow.Author.Tests.{leb-false}
 use Rattle.reading.specs.Each.{times, fold}
 use Rattle.reading.specs.Reading.{accepted, run}
 use Rattle.reading.specs.Refusals.{isOneOf, Refuses}
 use Rattle.reading.specs.declared.Limits.{Limits}
-use Rattle.reading.proofs.RefusalLaws.{refuses-after, refuses-then, refuses-done, refuses-here, refuses-check, refuses-so, listed-too}
+use Rattle.reading.proofs.Onward.{all-so}
+use Rattle.reading.proofs.RefusalLaws.{refuses-after, refuses-then, refuses-here, refuses-so, listed-too}
 use Rattle.reading.proofs.SureLaws.{sure-run, sure-under, whatever}
 use Rattle.kinds.specs.Shape.{greatest}
 use Rattle.layout.specs.Padding.{padded}
@@ -20,14 +19,18 @@ use Rattle.values.specs.Format.{entry}
 use Rattle.values.specs.declared.Dialect.{Dialect}
 use Rattle.values.specs.declared.Entry.{Entry}
 use Rattle.values.proofs.ValueRefusals.{entryRefusals, refuses-entries}
+use Rattle.tensors.specs.Format.{offsetPlace}
 use Rattle.tensors.proofs.TensorRefusals.{tensorRefusals, refuses-tensors}
+use Rattle.tensors.proofs.TensorsEnd.{tensors-end}
 use Rattle.start.specs.declared.Rooms.{Rooms}
 use Rattle.start.proofs.StartRefusals.{versionRefusals, Lacking, refuses-start}
 use Rattle.header.specs.Format.{latest, header}
+use Rattle.header.proofs.Judged.{refuses-judged}
 
--- those of a header's parts: all but 6, which asks for rows, and 18, the last test's
+-- those of a header's parts and of its offsets: all but 6, which asks for rows, and 18, which asks
+-- for a data's start that does not fit
 abbrev pub partRefusals : List ℕ
-partRefusals = 1 ∷ 2 ∷ 3 ∷ 4 ∷ 5 ∷ 7 ∷ 8 ∷ 9 ∷ 10 ∷ 11 ∷ 12 ∷ 13 ∷ 14 ∷ 15 ∷ 17 ∷ []
+partRefusals = 1 ∷ 2 ∷ 3 ∷ 4 ∷ 5 ∷ 7 ∷ 8 ∷ 9 ∷ 10 ∷ 11 ∷ 12 ∷ 13 ∷ 14 ∷ 15 ∷ 16 ∷ 17 ∷ []
 
 -- a number that is not one of them differs from each that is
 pub not-listed : (x n : ℕ) → isOneOf x partRefusals ≡ false → isOneOf n partRefusals ≡ true → n ≡ x → ⊥
@@ -49,7 +52,8 @@ pub refuses-header : {l : Limits} {s : List ℕ} {P : ℕ → ℕ → Type 0} (r
 unfolding header
 refuses-header {l} {s} {P} rooms cap given lacking overflowing =
     refuses-then (refuses-start (λ n q h low. given n q (listed-too n versionRefusals partRefusals refl h) low) rooms lacking) (λ c.
-    refuses-after (refuses-so (refuses-entries (c .dialect) cap (c .entries)) (λ n q h. given n q (listed-too n entryRefusals partRefusals refl (h .listed)) (h .inside))) (λ es p q read.
-    refuses-then (refuses-so (refuses-tensors (c .dialect) (c .tensors)) (λ n o h. given n o (listed-too n tensorRefusals partRefusals refl (h .listed)) (h .inside))) (λ ts.
-    refuses-here _ (λ e low. refuses-then (refuses-check (leb (padded (fold latest 32 es) e) greatest) 18 e
-    (λ f. overflowing (c .dialect) (c .entries) p es q e (sure-under l (sure-run whatever) .holds es q read .1) low (leb-false (padded (fold latest 32 es) e) greatest f))) (λ u. refuses-done)))))
+    refuses-after (refuses-so (refuses-entries (c .dialect) cap (c .entries)) (λ n q h. given n q (listed-too n entryRefusals partRefusals refl (h .listed)) (h .inside))) (λ es p q read near.
+    refuses-after (refuses-so (refuses-tensors (c .dialect) (c .tensors)) (λ n o h. given n o (listed-too n tensorRefusals partRefusals refl (h .listed)) (h .inside))) (λ ts o r listed within.
+    refuses-here _ (λ e low.
+    refuses-judged c es ts e (overflowing (c .dialect) (c .entries) p es q e (sure-under l (sure-run whatever) .holds es q read .1) low)
+    (all-so (λ t h. given 16 (offsetPlace t) refl (omega (arith, h))) ts (sure-under l (tensors-end (c .dialect) s (c .tensors) 0 o) .holds ts r listed))))))

@@ -1,4 +1,7 @@
+pub mod Judged
+pub mod Noted
 pub mod Stages
+pub mod TellingBits
 pub mod EntriesAgain
 pub mod Counted
 pub mod KeptRows
@@ -13,3 +16,6 @@ pub mod Examples
 pub mod SpansInside
 pub mod RefusalsListed
 pub mod EachRefusal
+pub mod TableRows
+pub mod OffsetsAligned
+pub mod MoreRows

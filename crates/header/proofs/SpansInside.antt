@@ -4,21 +4,18 @@ use Prim.Native.Nat.{ℕ, _+_, _≤_}
 use mathlib.Core.Path.{_≡_, refl, sym, subst, _∙_}
 use mathlib.Core.List.{List, _∷_, map}
 use native.Mathlib.Omega.{arith}
-use lib.Dec.{leb}
 use lib.ListN.{length, drop, length-map}
 use lib.Seq.{take-at}
 use Rattle.reading.specs.Back.{All, Sure}
-use Rattle.reading.specs.Each.{each, fold}
+use Rattle.reading.specs.Each.{each}
 use Rattle.reading.specs.Reading.{accepted, run, seen}
 use Rattle.reading.specs.Ceilings.{under}
 use Rattle.reading.specs.declared.Limits.{Limits}
 use Rattle.reading.proofs.Onward.{onward, all-so}
 use Rattle.reading.proofs.Repetition.{seen-accepted}
 use Rattle.reading.proofs.RunLaws.{inside}
-use Rattle.reading.proofs.SureLaws.{sure-then, sure-done, sure-here, sure-check, sure-run, sure-under, all-map, whatever}
+use Rattle.reading.proofs.SureLaws.{sure-then, sure-here, sure-run, sure-under, all-map, whatever}
 use Rattle.rows.specs.Columns.{placeIn, lengthIn}
-use Rattle.kinds.specs.Shape.{greatest}
-use Rattle.layout.specs.Padding.{padded}
 use Rattle.scalars.specs.Scalars.{scalarType}
 use Rattle.scalars.specs.declared.Scalar.{Scalar}
 use Rattle.scalars.specs.declared.Scalar.the-variants.{U8, I8, U16, I16, U32, I32, F32, Bool as Truth, U64, I64, F64}
@@ -32,16 +29,17 @@ use Rattle.values.specs.declared.Value.{Value}
 use Rattle.values.specs.declared.Value.the-variants.{Single, Text, Array}
 use Rattle.values.proofs.ValuesEnd.{text-there, entry-later, entries-end}
 use Rattle.tensors.specs.Format.{tensor, totalOf}
-use Rattle.tensors.specs.Rows.{tensorRow}
 use Rattle.tensors.specs.declared.Tensor.{Tensor}
-use Rattle.tensors.proofs.TensorsEnd.{tensors-end}
+use Rattle.tensors.proofs.TensorsEnd.{tensors-end, name-before}
 use Rattle.start.specs.declared.Rooms.{Rooms}
 use Rattle.header.specs.declared.Header.{Header}
 use Rattle.header.specs.Answers.{readerRun, outcomeOf, readerOutcome}
 use Rattle.header.specs.Contents.{dialectOf}
-use Rattle.header.specs.Format.{latest, FullHeader, header}
+use Rattle.header.specs.Format.{FullHeader, header}
 use Rattle.header.specs.Spans.{SpansInside, EntryRowEndsBy, RowsInside}
 use Rattle.header.proofs.Counted.{Counted, counted}
+use Rattle.header.proofs.Judged.{sure-judged}
+use Rattle.header.proofs.TableRows.{rows-hold}
 
 -- the records end where the header does
 header-ends : (rooms : Rooms) (cap : ℕ) (s : List ℕ) → Sure s (header rooms cap) 0 (λ w q. (q ≡ w .head .end) × All (EntryEndsBy (dialectOf w) s q) (w .entries) × All (λ (t : Tensor). EndsBy q (t .name)) (w .tensors))
@@ -49,8 +47,7 @@ unfolding header
 header-ends rooms cap s =
     sure-then whatever (λ c p u. sure-then (entries-end (c .dialect) s cap (c .entries) p) (λ es q h. sure-then (sure-run (tensors-end (c .dialect) s (c .tensors) 0 q)) (λ ts e g.
     let up : q ≤ e = onward (each (tensor (c .dialect)) totalOf (c .tensors) 0) s q (g .1) in
-    sure-here _ (sure-check (leb (padded (fold latest 32 es) e) greatest) 18 e _ (λ fits.
-    sure-done (refl, all-so (entry-later (c .dialect) s q e up) es h, g .0))))))
+    sure-here _ (sure-judged c es ts e (λ tested. (refl, all-so (entry-later (c .dialect) s q e up) es h, all-so (name-before e) ts (g .0)))))))
 
 -- whatever a reader accepts, with any ceilings, rooms and cap: what it points at ends at or before
 -- the header's end, which is within the bytes
@@ -119,9 +116,7 @@ rows-of es ts s w q h c = record {
   entries =
       rw (take-at (map entryRow (w .entries)) (drop (length (w .entries)) es) (w .head .entries) (length-map (w .entries) entryRow ∙ c .entries))
       (all-map (EntryRowEndsBy (w .head .end)) entryRow (λ e g. value-row (dialectOf w) s (w .head .end) (e .key .place) (e .key .len) (e .value) (g .key) (g .value)) (w .entries) (h .entries));
-  tensors =
-      rw (take-at (map tensorRow (w .tensors)) (drop (length (w .tensors)) ts) (w .head .tensors) (length-map (w .tensors) tensorRow ∙ c .tensors))
-      (all-map (λ (row : List ℕ). placeIn row + lengthIn row ≤ w .head .end) tensorRow (λ t g. g) (w .tensors) (h .tensors));
+  tensors = rows-hold (λ row. placeIn row + lengthIn row ≤ w .head .end) es ts w q (h .tensors) c;
 }
 
 -- the same, of the rows that a reader's caller has: where the answer is a header h, what the rows

@@ -3,31 +3,22 @@
 use Prim.Native.Nat.{ℕ}
 use mathlib.Core.Path.{_≡_}
 use mathlib.Core.List.{List}
-use lib.Dec.{leb}
 use lib.ListN.{length}
-use Rattle.reading.specs.Choice.{if_then_else_}
 use Rattle.reading.specs.Reading.{Answer, accepted, refused, run, seen}
 use Rattle.reading.specs.Each.{filled}
 use Rattle.reading.specs.Ceilings.{under}
 use Rattle.reading.specs.declared.Limits.{Limits}
-use Rattle.kinds.specs.Shape.{greatest}
 use Rattle.values.specs.Rows.{entryRow}
 use Rattle.tensors.specs.Rows.{tensorRow}
-use Rattle.layout.specs.Padding.{padded}
-use Rattle.start.specs.declared.Start.{Start}
 use Rattle.header.specs.declared.Header.{Header}
 use Rattle.header.specs.declared.HeaderRead.{HeaderRead}
 use Rattle.header.specs.declared.HeaderRead.the-variants.{Found as FoundHeader, Refused as NoHeader}
-use Rattle.header.specs.Format.{FullHeader, header, headerOf}
+use Rattle.header.specs.Format.{FullHeader, header}
 
 -- a header, with the place after it
 abbrev pub asHeader : HeaderRead → Answer Header
 asHeader (FoundHeader h) = accepted h (h .end)
 asHeader (NoHeader n p) = refused n p
-
--- the header that ends at e, where the start of its data fits
-abbrev pub headerIfItFits : Start → ℕ → ℕ → HeaderRead
-headerIfItFits c a e = if leb (padded a e) greatest then FoundHeader (headerOf c a e) else NoHeader 18 e
 
 -- the run that a call comes from: the reader's ceilings and cap, the tables as they were, and the
 -- bytes

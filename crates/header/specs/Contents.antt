@@ -9,7 +9,7 @@ use Rattle.reading.specs.Choice.{if_then_else_}
 use Rattle.reading.specs.Each.{fold}
 use Rattle.reading.specs.Back.{bytesOfAll, Along, All}
 use Rattle.kinds.specs.Shape.{greatest}
-use Rattle.layout.specs.Padding.{padded}
+use Rattle.layout.specs.Padding.{isMultiple, padded}
 use Rattle.values.specs.declared.Dialect.{Dialect}
 use Rattle.values.specs.Format.{sizeWidth, isWord, alignmentKey, depth}
 use Rattle.scalars.specs.Scalars.{scalarOf, naturalOf}
@@ -84,8 +84,8 @@ contentsOf s w = record { entries = map (entryContent (dialectOf w) s) (w .entri
 abbrev pub summaryIn : List ℕ → FullHeader → Summary
 summaryIn s w = record { dialect = dialectOf w; contents = contentsOf s w; alignment = w .head .alignment; end = w .head .end; start = w .head .start }
 
--- What can be written: each number fits its field, there are rows for all records, and the start of
--- the data fits 64 bits.
+-- What can be written: each number fits its field, there are rows for all records, the start of the
+-- data fits 64 bits, and every offset is a multiple of the alignment.
 pub record FitsContents (rooms : Rooms) (k : Dialect) (c : Contents) : Type 0 where
   pub version : knownVersion (k .version) ≡ true
   pub entryCount : Within (sizeWidth k) (length (c .entries))
@@ -95,3 +95,4 @@ pub record FitsContents (rooms : Rooms) (k : Dialect) (c : Contents) : Type 0 wh
   pub entries : All (FitsEntry k) (c .entries)
   pub tensors : Along FitsTensor totalWith 0 (c .tensors)
   pub start : padded (alignmentIn (c .entries)) (length (headerBytes k c)) ≤ greatest
+  pub aligned : All (λ (t : TensorContent). isMultiple (alignmentIn (c .entries)) (t .offset) ≡ true) (c .tensors)

@@ -4,3 +4,4 @@ pub mod Steps
 pub mod Contents
 pub mod Refusals
 pub mod Spans
+pub mod Offsets

@@ -4,6 +4,7 @@
 // they were. Nothing is allocated. The rows of a short list of entries are kept meanwhile, so that
 // it is read once; a longer one is read twice. Tensors are read twice, and the second time nothing
 // is tested. `measure` checks a header and fills nothing.
+use fields::GREATEST;
 use fields::Number;
 use kinds::Bounded;
 use reading::Limits;
@@ -14,26 +15,26 @@ use scalars::Natural;
 use start::Rooms;
 use start::Start;
 use start::StartRead;
+use tensors::Tensor;
 use tensors::TensorRead;
 use values::Dialect;
 use values::Entry;
 use values::EntryRead;
 use values::Passed;
 use values::Value;
-ghost use Prim.Native.Nat.{_≤_};
+ghost use Prim.Native.Nat.{_+_, _<_, _≤_};
 ghost use lib.ListN.{drop, length, take};
 ghost use mathlib.Core.Bool.{true};
 ghost use mathlib.Core.List.{_++_};
 ghost use mathlib.Core.Path.{_≡_};
 ghost use Rattle.fields.specs.Value.{asNumber};
-ghost use Rattle.header.specs.Answers.{asHeader, headerIfItFits, readerOutcome, CameTo};
-ghost use Rattle.header.specs.Steps.{Keeps};
+ghost use Rattle.header.specs.Answers.{asHeader, readerOutcome, CameTo};
+ghost use Rattle.header.specs.Steps.{Keeps, Tells, noted, asNoted, headerIfItFits, headerAfter};
 ghost use Rattle.reading.specs.Ceilings.{under};
 ghost use Rattle.reading.specs.Each.{each, filled, fold, times};
-ghost use Rattle.reading.specs.Reading.{isAccepted, passed, run, seen};
-ghost use Rattle.tensors.specs.Format.{tensor, totalOf};
+ghost use Rattle.reading.specs.Reading.{isAccepted, run, seen};
+ghost use Rattle.tensors.specs.Format.{offsetPlace, tensor, totalOf};
 ghost use Rattle.tensors.specs.Rows.{tensorRow};
-ghost use Rattle.values.specs.Answers.{asPassed};
 ghost use Rattle.values.specs.Format.{entry};
 ghost use Rattle.values.specs.Rows.{entryRow};
 ghost use Rattle.header.specs.Format as format;
@@ -125,10 +126,57 @@ fn pass_entries(s: &[u8], at: usize, n: u64, dialect: Dialect, cap: u64) -> Numb
     }
 }
 
-// Passes n tensors: the place after them.
-fn pass_tensors(s: &[u8], at: usize, n: u64, dialect: Dialect, limits: Limits) -> Passed
-    ensures { λ r. ⌜ asPassed r ≡ passed (run (each (λ z. under limits (tensor dialect z)) totalOf n 0) (now (s .entry)) at) ⌝ }
+// Bits that tell multiples of an alignment: a number without any of them is one. Nearly every
+// alignment is a power of two, and the bits are those below it; of any other they are all 64.
+fn telling_bits(alignment: u64) -> u64
+    requires { ⌜ 0 < alignment ⌝ }
+    ensures { λ r. ⌜ Tells r alignment ⌝ }
 {
+    let below = alignment - 1;
+    if alignment & below == 0 {
+        below
+    } else {
+        GREATEST
+    }
+}
+
+// Notes the place of an offset that is no multiple of the alignment, where none was noted before. A
+// tensor's offset is its last field, and the tensor ends at next.
+fn note_offset(tensor: Tensor, next: usize, alignment: u64, bits: u64, misaligned: &mut usize)
+    requires { ⌜ 0 < alignment ⌝ }
+    requires { ⌜ Tells bits alignment ⌝ }
+    requires { ⌜ next ≡ offsetPlace tensor + 8 ⌝ }
+    ensures { λ r. ⌜ now (misaligned .exit) ≡ noted alignment (now (misaligned .entry)) tensor ⌝ }
+{
+    let offset = tensor.offset;
+    if offset & bits == 0 {
+        return;
+    }
+    if offset % alignment == 0 {
+        return;
+    }
+    if *misaligned == 0 {
+        *misaligned = next - 8;
+    }
+}
+
+// Passes n tensors: the place after them. In misaligned it notes the place of the first offset that
+// is no multiple of the alignment, unless one is noted there before; 0, where no offset stands, is
+// none. It is lent, and not a part of the answer, because as a variable of the loop it would cost
+// each tensor some six instructions.
+fn pass_tensors(
+    s: &[u8],
+    at: usize,
+    n: u64,
+    dialect: Dialect,
+    limits: Limits,
+    alignment: u64,
+    misaligned: &mut usize,
+) -> Passed
+    requires { ⌜ 0 < alignment ⌝ }
+    ensures { λ r. ⌜ asNoted r (now (misaligned .exit)) ≡ seen (fold (noted alignment) (now (misaligned .entry))) (run (each (λ z. under limits (tensor dialect z)) totalOf n 0) (now (s .entry)) at) ⌝ }
+{
+    let bits = telling_bits(alignment);
     let mut from = at;
     let mut total: u64 = 0;
     let mut i: u64 = 0;
@@ -138,6 +186,7 @@ fn pass_tensors(s: &[u8], at: usize, n: u64, dialect: Dialect, limits: Limits) -
                 return Passed::Refused { why, place };
             }
             TensorRead::Found { tensor, next } => {
+                note_offset(tensor, next, alignment, bits, misaligned);
                 from = next;
                 total += tensor.parameters;
             }
@@ -265,8 +314,9 @@ fn fill_tensors(s: &[u8], at: usize, n: usize, dialect: Dialect, rows: &mut [Ten
 }
 
 // The answer of a header that ends at end: its data starts at the next multiple of its alignment.
-fn header_if_it_fits(start: Start, alignment: u64, end: usize) -> HeaderRead
-    ensures { λ r. ⌜ r ≡ headerIfItFits start alignment end ⌝ }
+// The last tests are of that start and, where one is misaligned, of the tensors' offsets.
+fn header_if_it_fits(start: Start, alignment: u64, end: usize, misaligned: usize) -> HeaderRead
+    ensures { λ r. ⌜ r ≡ headerIfItFits start alignment end misaligned ⌝ }
 {
     match layout::pad(alignment, end as u64) {
         Bounded::Over => HeaderRead::Refused {
@@ -274,6 +324,12 @@ fn header_if_it_fits(start: Start, alignment: u64, end: usize) -> HeaderRead
             place: end,
         },
         Bounded::Fits { value } => {
+            if misaligned != 0 {
+                return HeaderRead::Refused {
+                    why: 16,
+                    place: misaligned,
+                };
+            }
             let dialect = start.dialect;
             HeaderRead::Found {
                 header: Header {
@@ -290,6 +346,16 @@ fn header_if_it_fits(start: Start, alignment: u64, end: usize) -> HeaderRead
     }
 }
 
+// The answer of a header whose tensors were passed, or were refused.
+fn header_after(passed: Passed, start: Start, alignment: u64, misaligned: usize) -> HeaderRead
+    ensures { λ r. ⌜ r ≡ headerAfter start alignment (asNoted passed misaligned) ⌝ }
+{
+    match passed {
+        Passed::Refused { why, place } => HeaderRead::Refused { why, place },
+        Passed::To { next: end } => header_if_it_fits(start, alignment, end, misaligned),
+    }
+}
+
 // Tests a whole header and answers what it says of itself, with no row.
 pub fn measure(s: &[u8], limits: Limits, cap: u64, rooms: Rooms) -> HeaderRead
     ensures { λ r. ⌜ asHeader r ≡ seen (λ w. w .head) (run (under limits (format.header rooms cap)) (now (s .entry)) 0) ⌝ }
@@ -303,10 +369,12 @@ pub fn measure(s: &[u8], limits: Limits, cap: u64, rooms: Rooms) -> HeaderRead
                 Number::Value {
                     value: alignment,
                     next: q,
-                } => match pass_tensors(s, q, start.tensors, dialect, limits) {
-                    Passed::Refused { why, place } => HeaderRead::Refused { why, place },
-                    Passed::To { next: end } => header_if_it_fits(start, alignment, end),
-                },
+                } => {
+                    let mut noted: usize = 0;
+                    let n = start.tensors;
+                    let ended = pass_tensors(s, q, n, dialect, limits, alignment, &mut noted);
+                    header_after(ended, start, alignment, noted)
+                }
             }
         }
     }
@@ -360,16 +428,18 @@ pub fn read(
                 Number::Value {
                     value: alignment,
                     next: q,
-                } => match pass_tensors(s, q, start.tensors, start.dialect, limits) {
-                    Passed::Refused { why, place } => HeaderRead::Refused { why, place },
-                    Passed::To { next: end } => match header_if_it_fits(start, alignment, end) {
+                } => {
+                    let mut noted: usize = 0;
+                    let n = start.tensors;
+                    let ended = pass_tensors(s, q, n, start.dialect, limits, alignment, &mut noted);
+                    match header_after(ended, start, alignment, noted) {
                         HeaderRead::Refused { why, place } => HeaderRead::Refused { why, place },
                         HeaderRead::Found { header } => {
                             fill(s, p, q, start, cap, &kept, entries, tensors);
                             HeaderRead::Found { header }
                         }
-                    },
-                },
+                    }
+                }
             }
         }
     }

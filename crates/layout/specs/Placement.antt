@@ -1,13 +1,14 @@
 -- What any placement of tensors has to keep, ours or another: their order, the alignment, and the
 -- bytes of each.
-use Prim.Native.Nat.{ℕ, _+_, _%_, _≤_}
+use Prim.Native.Nat.{ℕ, _+_, _≤_}
 use mathlib.Core.Path.{_≡_}
 use mathlib.Core.Bool.{Bool, true, false, _&&_}
 use mathlib.Core.List.{List, [], _∷_}
-use lib.Dec.{leb, eqb}
+use lib.Dec.{leb}
 use lib.ListN.{getD}
 use Rattle.kinds.specs.Shape.{sizeOf}
 use Rattle.layout.specs.Layout.{Piece}
+use Rattle.layout.specs.Padding.{isMultiple}
 
 -- the bytes of a tensor
 abbrev pub pieceSize : Piece → ℕ
@@ -19,7 +20,7 @@ abbrev pub mayStartAfter : ℕ → ℕ → (sizes starts : List ℕ) → Bool
 mayStartAfter a n [] [] = true
 mayStartAfter a n [] (start ∷ starts) = false
 mayStartAfter a n (size ∷ sizes) [] = false
-mayStartAfter a n (size ∷ sizes) (start ∷ starts) = eqb (start % a) 0 && leb n start && mayStartAfter a (start + size) sizes starts
+mayStartAfter a n (size ∷ sizes) (start ∷ starts) = isMultiple a start && leb n start && mayStartAfter a (start + size) sizes starts
 
 -- a placement: starts for all of them, from 0 on
 abbrev pub isPlacement : ℕ → (sizes starts : List ℕ) → Bool

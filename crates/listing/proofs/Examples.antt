@@ -5,7 +5,7 @@ use mathlib.Core.List.{List, [], _∷_}
 use lib.ListN.{take}
 use Rattle.reading.specs.Back.{bytesOfAll}
 use Rattle.reading.specs.Ceilings.{under}
-use Rattle.reading.specs.Each.{each}
+use Rattle.reading.specs.Each.{each, checkEach}
 use Rattle.reading.specs.Reading.{run, _>>=_, here}
 use Rattle.fields.specs.Value.{number}
 use Rattle.kinds.specs.Table.{blockOf}
@@ -30,10 +30,10 @@ pub two-tensors : listing tensors3
     ≡ (103 ∷ 103 ∷ 117 ∷ 102 ∷ 32 ∷ 118 ∷ 51 ∷ 32 ∷ 76 ∷ 69 ∷ 32 ∷ 107 ∷ 118 ∷ 32 ∷ 48 ∷ 32 ∷ 116 ∷ 101 ∷ 110 ∷ 115 ∷ 111 ∷ 114 ∷ 115 ∷
     32 ∷ 50 ∷ 32 ∷ 97 ∷ 108 ∷ 105 ∷ 103 ∷ 110 ∷ 32 ∷ 51 ∷ 50 ∷ 32 ∷ 100 ∷ 97 ∷ 116 ∷ 97 ∷ 32 ∷ 57 ∷ 54 ∷ 10 ∷ 97 ∷ 32 ∷ 48 ∷ 32 ∷
     53 ∷ 32 ∷ 48 ∷ 32 ∷ 50 ∷ 48 ∷ 10 ∷ 98 ∷ 32 ∷ 49 ∷ 32 ∷ 51 ∷ 32 ∷ 51 ∷ 50 ∷ 32 ∷ 54 ∷ 10 ∷ [])
-unfolding run under each header magic version start counts size number here _>>=_ tensor text textLooking shape lengthsOf lengthAt kindAndOffset blockOf bytesOfAll digits decimal labelled lineEnd versionText formatText headLine furtherText lengthsText shapeText tensorLine linesOf textOf listingIn listing orderedAfter ordered
+unfolding run under each header checkEach magic version start counts size number here _>>=_ tensor text textLooking shape lengthsOf lengthAt kindAndOffset blockOf bytesOfAll digits decimal labelled lineEnd versionText formatText headLine furtherText lengthsText shapeText tensorLine linesOf textOf listingIn listing orderedAfter ordered
 two-tensors = refl
 
 -- a byte less: "refused 1 82"
 pub a-byte-less : listing (take 89 tensors3) ≡ (114 ∷ 101 ∷ 102 ∷ 117 ∷ 115 ∷ 101 ∷ 100 ∷ 32 ∷ 49 ∷ 32 ∷ 56 ∷ 50 ∷ 10 ∷ [])
-unfolding run under each header magic version start counts size number here _>>=_ tensor text textLooking shape lengthsOf lengthAt kindAndOffset blockOf digits decimal labelled lineEnd refusalLine textOf listingIn listing
+unfolding run under each header checkEach magic version start counts size number here _>>=_ tensor text textLooking shape lengthsOf lengthAt kindAndOffset blockOf digits decimal labelled lineEnd refusalLine textOf listingIn listing
 a-byte-less = refl

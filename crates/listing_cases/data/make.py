@@ -31,6 +31,9 @@ BLOCKS_OF_32 = {2, 3, 6, 7, 8, 9, 20, 39}
 GREATEST = 2**64 - 1
 LONGEST = 2**30
 
+# The largest offset that alignment 32 leaves.
+LAST_OFFSET = 2**64 - 32
+
 
 def block_size(kind):
     """The numbers in a block of a kind."""
@@ -72,6 +75,8 @@ class File:
     def __init__(self, version=3, big=False):
         self.version, self.big = version, big
         self.bytes, self.entries, self.tensors = b"", [], []
+        # The place of each tensor's offset, with the offset.
+        self.offsets = []
         self.total, self.answer = 0, None
 
     # Fields
@@ -134,13 +139,16 @@ class File:
         return self.number(4, dimensions)
 
     def tensor(self, name, kind, lengths, offset):
-        """A whole tensor record. Where a rule refuses it, the answer of the file is that."""
+        """A whole tensor record. Where a rule refuses it, the answer of the file is that.
+
+        Whether its offset is aligned is not asked before the header's end.
+        """
         place = len(self.bytes)
         self.name_and_dimensions(name, len(lengths))
         for length in lengths:
             self.number(8, length)
         kind_place = self.number(4, kind)
-        self.number(8, offset)
+        self.offsets.append((self.number(8, offset), offset))
         numbers = product(lengths)
         if kind not in TYPE_SIZES:
             self.refused(11, kind_place)
@@ -174,11 +182,21 @@ class File:
         """Nothing follows, and a field should."""
         self.refused(1, len(self.bytes))
 
-    def listed(self):
-        """The header ends here: the text of its contents, unless it was refused."""
-        if self.answer is not None:
-            return
+    def ended(self):
+        """The header ends here: the text of its contents, unless it was refused.
+
+        All entries and tensors are known now, so this is where offsets are held against the
+        alignment, in the order of the file.
+        """
         end, unit = len(self.bytes), alignment_of(self.entries)
+        for place, offset in self.offsets:
+            if offset % unit != 0:
+                self.refused(16, place)
+        if self.answer is None:
+            self.listed(end, unit)
+
+    def listed(self, end, unit):
+        """The header is accepted. It ends here, and this is its alignment."""
         data = (end + unit - 1) // unit * unit
         counts = len(self.entries), len(self.tensors)
         order = b"BE" if self.big else b"LE"
@@ -196,6 +214,16 @@ class File:
 CASES = {}
 
 
+def check_names():
+    """A case is refused as its name says. All but the faults are listed where it says nothing."""
+    for name, file in CASES.items():
+        if name.startswith("refused_"):
+            number = int(name.split("_")[1])
+            assert file.answer.startswith(b"refused %d " % number), name
+        elif not name.startswith("fault_"):
+            assert file.answer.startswith(b"gguf v"), name
+
+
 def new(name, version=3, big=False):
     CASES[name] = File(version, big)
     return CASES[name]
@@ -209,7 +237,7 @@ def whole(name, entries=(), tensors=(), version=3, big=False, after=b""):
         file.entry(*entry)
     for tensor in tensors:
         file.tensor(*tensor)
-    file.listed()
+    file.ended()
     file.raw(after)
 
 
@@ -220,7 +248,17 @@ def front(name, tensors=0, entries=0, version=3):
     return file
 
 
-A_AND_B = [(b"a", 0, [5], 0), (b"b", 1, [3], 32)]
+def a_and_b(a, b):
+    """The tensors a and b, at these offsets."""
+    return [(b"a", 0, [5], a), (b"b", 1, [3], b)]
+
+
+A_AND_B = a_and_b(0, 32)
+
+
+def alignment_entries(*alignments):
+    """An entry `general.alignment` for each of these."""
+    return [(b"general.alignment", U32, alignment) for alignment in alignments]
 
 
 def small_headers():
@@ -267,21 +305,26 @@ def types():
 
 
 def alignments():
-    whole("alignment_64", [(b"general.alignment", U32, 64)], A_AND_B)
+    whole("alignment_64", alignment_entries(64), a_and_b(0, 64))
+    # No power of 2.
+    whole("alignment_24", alignment_entries(24), a_and_b(24, 120))
     unusable = [(b"general.alignment", U32, 64), (b"general.alignment", U64, 12)]
     whole("last_alignment_unusable", unusable)
+    # Offsets go by the last entry too.
+    whole("last_alignment_unusable_offset_32", unusable, A_AND_B)
+    whole("last_alignment_8", alignment_entries(64, 8), a_and_b(0, 40))
 
 
 def shapes():
     whole("shapes", tensors=[
         (b"none", 0, [], 0),
-        (b"one", 1, [7], 8),
+        (b"one", 1, [7], 32),
         (b"two", 2, [32, 3], 64),
         (b"three", 12, [256, 2, 3], 2**40),
         (b"four", 30, [2, 3, 4, 5], 96),
         (b"empty", 0, [0, 2**32, 2**32], 0),
         (b"ones", 24, [1, 1, 1, 1], 0),
-        (b"largest", 0, [2**62 - 1], GREATEST),
+        (b"largest", 0, [2**62 - 1], LAST_OFFSET),
     ])  # fmt: skip
 
 
@@ -299,7 +342,7 @@ def blocks():
 
 def names():
     odd_keys = [(b"a b", U8, 0), (b"line\nbreak\xff\x00", I8, 0)]
-    odd_names = [(b"", 0, [1], 0), (b"x\ty\n", 0, [1], 0), (b"\xff\xfe", 1, [2], 4)]
+    odd_names = [(b"", 0, [1], 0), (b"x\ty\n", 0, [1], 0), (b"\xff\xfe", 1, [2], 32)]
     whole("names_as_they_are", odd_keys, odd_names)
 
 
@@ -307,7 +350,8 @@ def full_tables():
     falling = [(b"%02x" % i, i % 8, 0) for i in reversed(range(256))]
     longer = [(key + b"+", kind, value) for key, kind, value in falling]
     whole("entries_512", longer + falling, version=1)
-    whole("tensors_512", tensors=[(b"%d" % (i % 10), i % 2, [], i) for i in range(512)], version=1)
+    rising = [(b"%d" % (i % 10), i % 2, [], 32 * i) for i in range(512)]
+    whole("tensors_512", tensors=rising, version=1)
 
 
 def cut_off():
@@ -389,8 +433,29 @@ def wrong_tensors():
         "refused_17_before_15": [(b"u", 24, [GREATEST], 0), (b"t", 39, [31], 0)],
     }.items():
         whole(name, tensors=tensors)
-        number = int(name.split("_")[1])
-        assert CASES[name].answer.startswith(b"refused %d " % number), name
+
+
+def misaligned():
+    """An offset that is not a multiple of the alignment, alone and before other faults."""
+    whole("refused_16", tensors=a_and_b(0, 33))
+    whole("refused_16_v1", tensors=a_and_b(0, 33), version=1)
+    whole("refused_16_big_end", tensors=a_and_b(0, 33), big=True)
+    whole("refused_16_first_of_two", tensors=a_and_b(8, 33))
+    whole("refused_16_of_length_0", tensors=[(b"t", 0, [0], 33)])
+    whole("refused_16_of_no_bytes", tensors=[(b"t", 31, [256], 33)])
+    whole("refused_16_greatest", tensors=a_and_b(0, GREATEST))
+    whole("refused_16_alignment_24", alignment_entries(24), A_AND_B)
+    whole("refused_16_last_alignment_64", alignment_entries(8, 64), a_and_b(0, 8))
+    whole("refused_16_last_alignment_unusable", alignment_entries(8, 12), a_and_b(0, 8))
+    # Something else is wrong with the second, or it is not all there: that comes before.
+    first = (b"a", 0, [5], 33)
+    whole("refused_11_before_16", tensors=[first, (b"b", 40, [3], 33)])
+    whole("refused_15_before_16", tensors=[first, (b"b", 24, [GREATEST], 33)])
+    whole("refused_17_before_16", tensors=[first, (b"b", 2, [33], 33)])
+    file = front("refused_1_before_16", tensors=2)
+    file.tensor(*first)
+    file.tensor(b"b", 1, [3], 33)
+    file.cut(len(file.bytes) - 8, 7)
 
 
 # Faults that other readers of the format had: docs/FAULTS.md says what each class is.
@@ -472,16 +537,18 @@ def faults_of_shapes():
 
 
 def faults_of_sums():
-    # The reader asks nothing of offsets, and the sizes fit one by one. The range check refuses both.
+    # The offsets are aligned, and the sizes fit one by one. The range check refuses both.
     sizes = [(b"t", 0, [2**62 - 1], 0), (b"u", 0, [2], 0)]
     whole("fault_sizes_whose_sum_wraps", tensors=sizes)
-    whole("fault_offset_and_size_whose_sum_wraps", tensors=[(b"t", 0, [5], 2**64 - 16)])
+    whole("fault_offset_and_size_whose_sum_wraps", tensors=[(b"t", 0, [9], LAST_OFFSET)])
 
 
 def faults_of_alignments():
-    whole("fault_alignment_of_0", [(b"general.alignment", U32, 0)], A_AND_B)
+    whole("fault_alignment_of_0", alignment_entries(0), A_AND_B)
     whole("fault_alignment_below_0", [(b"general.alignment", I64, -64)], A_AND_B)
-    whole("fault_alignment_of_2_64_less_8", [(b"general.alignment", U64, 2**64 - 8)], A_AND_B)
+    # It leaves two offsets.
+    most = 2**64 - 8
+    whole("fault_alignment_of_2_64_less_8", [(b"general.alignment", U64, most)], a_and_b(0, most))
 
 
 def faults_of_tables():
@@ -511,6 +578,7 @@ def main():
     too_many()
     wrong_entries()
     wrong_tensors()
+    misaligned()
     faults_of_counts()
     faults_of_strings()
     faults_of_arrays()
@@ -518,6 +586,7 @@ def main():
     faults_of_sums()
     faults_of_alignments()
     faults_of_tables()
+    check_names()
     data = Path(__file__).resolve().parent
     for name, file in CASES.items():
         (data / name).write_bytes(file.bytes)

@@ -5,7 +5,7 @@ use mathlib.Core.List.{List, [], _∷_}
 use mathlib.Core.Bool.{false}
 use lib.ListN.{take}
 use Rattle.reading.specs.Ceilings.{under}
-use Rattle.reading.specs.Each.{each}
+use Rattle.reading.specs.Each.{each, checkEach}
 use Rattle.reading.specs.Reading.{run, here, seen, _>>=_}
 use Rattle.fields.specs.Value.{number}
 use Rattle.values.specs.Format.{size, textLooking, text, key, type, valueOf, array, value, entry}
@@ -26,15 +26,15 @@ twice =
 
 -- the second decides
 pub the-last : lookup (97 ∷ []) twice ≡ Found (record { key = record { place = 30; len = 1 }; «is_alignment» = false; value = Single (U8 2) })
-unfolding run under seen _>>=_ here each number size textLooking key type scalarWidth text valueOf array value entry magic version counts start header
+unfolding run under seen _>>=_ here each checkEach number size textLooking key type scalarWidth text valueOf array value entry magic version counts start header
 the-last = refl
 
 -- "b" is not there
 pub another : lookup (98 ∷ []) twice ≡ Absent
-unfolding run under seen _>>=_ here each number size textLooking key type scalarWidth text valueOf array value entry magic version counts start header
+unfolding run under seen _>>=_ here each checkEach number size textLooking key type scalarWidth text valueOf array value entry magic version counts start header
 another = refl
 
 -- without its last byte the whole is refused, at the second value, though the first entry is there
 pub cut : lookup (97 ∷ []) (take 35 twice) ≡ Refused 1 35
-unfolding run under seen _>>=_ here each number size textLooking key type scalarWidth text valueOf array value entry magic version counts start header
+unfolding run under seen _>>=_ here each checkEach number size textLooking key type scalarWidth text valueOf array value entry magic version counts start header
 cut = refl

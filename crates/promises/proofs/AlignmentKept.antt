@@ -6,7 +6,7 @@ use mathlib.Core.Bool.{Bool, true, false, not}
 use mathlib.Core.List.{List, [], _∷_, map}
 use native.Mathlib.Omega.{arith}
 use native.Mathlib.Nat.{mod-eq-of-lt}
-use borrow.Author.Tests.{leb-true, eqb-true}
+use borrow.Author.Tests.{leb-true, eqb-true, eqb-false}
 use lib.Dec.{leb, eqb}
 use Rattle.reading.specs.Back.{All}
 use Rattle.reading.specs.Choice.{if_then_else_}
@@ -71,6 +71,16 @@ added-said a x (e ∷ es) h = by (before alignmentKey (e .content .key)) (added-
         → fold latestContent x (if b then alignmentEntry a ∷ entryIn e ∷ map entryIn es else entryIn e ∷ inserted a (map entryIn es)) ≡ contentAlignment (aScalar 4 a)
     by true f = all-said (contentAlignment (aScalar 4 a)) Absent (e ∷ es) ∙ ap (orElse (contentAlignment (aScalar 4 a))) h
     by false f = f
+
+-- an alignment is above 0
+pub above-zero : (a : ℕ) → isAlignment a ≡ true → 0 < a
+above-zero a e = by (eqb a 0) refl e
+  where
+    by : (b : Bool) → eqb a 0 ≡ b → (if b then false else eqb (a % 8) 0) ≡ true → 0 < a
+    by true i f = let z : _≡_ {A = ℕ} 0 1 = cc in absurd (omega arith)
+    by false i f =
+        let some : a ≡ 0 → ⊥ = eqb-false a 0 i in
+        omega arith
 
 -- an alignment is usable as it is
 usable-as-is : (a : ℕ) → isAlignment a ≡ true → usable (Number a) ≡ a

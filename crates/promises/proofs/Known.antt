@@ -4,13 +4,13 @@ use mathlib.Core.Path.{refl}
 use Rattle.fields.specs.Bytes.{little, bytesOf}
 use Rattle.reading.specs.Back.{bytesOfAll}
 use Rattle.reading.specs.Ceilings.{under}
-use Rattle.reading.specs.Each.{each}
-use Rattle.reading.specs.Reading.{run, here, andThen, _>>=_}
+use Rattle.reading.specs.Each.{each, checkEach}
+use Rattle.reading.specs.Reading.{run, here, andThen, seen, _>>=_}
 use Rattle.fields.specs.Value.{number}
 use Rattle.kinds.specs.Table.{blockOf}
 use Rattle.layout.specs.Layout.{placeOf, layoutFrom}
 use Rattle.scalars.specs.Scalars.{scalarWidth}
-use Rattle.values.specs.Format.{size, textLooking, text as textRead}
+use Rattle.values.specs.Format.{size, textLooking, text as textRead, key, type, value, valueOf, entry}
 use Rattle.tensors.specs.Format.{lengthAt, lengthsOf, shape as shapeRead, kindAndOffset, tensor as tensorRead}
 use Rattle.start.specs.Format.{magic, version, counts, start}
 use Rattle.header.specs.Format.{header}
@@ -27,7 +27,7 @@ use Rattle.promises.specs.Known.{Known}
 
 pub known : Known
 unfolding under header magic version start counts size textRead textLooking shapeRead kindAndOffset tensorRead
-    run each number here _>>=_ andThen lengthsOf lengthAt blockOf placeOf layoutFrom
+    run each checkEach number here _>>=_ andThen seen key type value valueOf entry lengthsOf lengthAt blockOf placeOf layoutFrom
     sheetOf entriesFrom tensorsFrom asMany text textOf bytes opening framed shape tensorBody tensor planFor headerFor
     headerBytes startBytes sizeBytes textBytes typeBytes valueBytes entryBytes lengthBytes shapeBytes kindAndOffsetBytes tensorBytes bytesOf little bytesOfAll scalarWidth
 known = record {
@@ -60,6 +60,13 @@ known = record {
   no-dimensions-row = refl;
   too-long-read = refl;
   just-fits-read = refl;
+  misaligned-3 = refl;
+  misaligned-1 = refl;
+  misaligned-first = refl;
+  misaligned-unknown = refl;
+  misaligned-empty = refl;
+  misaligned-last = refl;
+  aligned-last = refl;
   no-sheet = λ out. refl;
   only-version = refl;
   then-zeros = refl;

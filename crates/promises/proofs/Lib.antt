@@ -7,6 +7,7 @@ pub mod RowsSay
 pub mod WrittenTables
 pub mod Offsets
 pub mod WrittenEarliest
+pub mod WrittenAligned
 pub mod RoundTrip
 pub mod KeysAscend
 pub mod OneResult

@@ -1,13 +1,9 @@
 -- The offsets in a header are those of the layout of its tensors. Assumes nothing.
-use Prim.Native.Nat.{ℕ, suc, _%_, _<_}
+use Prim.Native.Nat.{ℕ, suc}
 use mathlib.Core.Path.{_≡_, refl, sym, ap, subst, _∙_}
 use mathlib.Core.List.{List, [], _∷_, map}
-use mathlib.Core.Bool.{Bool, true, false}
 use native.Mathlib.Omega.{arith}
-use borrow.Author.Tests.{eqb-false}
-use lib.Dec.{eqb}
 use lib.ListN.{length}
-use Rattle.reading.specs.Choice.{if_then_else_}
 use Rattle.layout.specs.declared.Laid.{Laid}
 use Rattle.layout.specs.declared.Placed.{Placed}
 use Rattle.layout.specs.declared.Placed.the-variants.{At, Refused}
@@ -23,10 +19,10 @@ use Rattle.sheet.specs.Sheet.{Records, sheetOf}
 use Rattle.plan.specs.declared.LaidOut.the-variants.{Fits}
 use Rattle.plan.specs.Header.{pieceOf, laidWith, laidFrom, recordsIn}
 use Rattle.plan.specs.Plan.{laidOf}
-use Rattle.header.specs.Format.{isAlignment}
 use Rattle.writer.specs.declared.HeaderWritten.the-variants.{Written}
 use Rattle.writer.proofs.Planned.{PlannedBy, planned-by}
 use Rattle.promises.specs.Back.{answerFor, piecesIn, offsetsIn, sizesIn}
+use Rattle.promises.proofs.AlignmentKept.{above-zero}
 use Rattle.promises.proofs.WrittenReadsBack.{wrote-plan}
 
 abbrev offsetIn : TensorContent → ℕ
@@ -87,15 +83,6 @@ record Laying (layout : Layout) : Type 0 where
 laying : (layout : Layout) → Fits ≡ laidOf layout → Laying layout
 laying (laidOut offsets laid) e = record { offsets = offsets; laid = laid; is = refl }
 laying (refusedAt w i) e = let z : _≡_ {A = ℕ} 0 1 = cc in absurd (omega arith)
-
-above-zero : (a : ℕ) → isAlignment a ≡ true → 0 < a
-above-zero a e = by (eqb a 0) refl e
-  where
-    by : (b : Bool) → eqb a 0 ≡ b → (if b then false else eqb (a % 8) 0) ≡ true → 0 < a
-    by true i f = let z : _≡_ {A = ℕ} 0 1 = cc in absurd (omega arith)
-    by false i f =
-        let some : a ≡ 0 → ⊥ = eqb-false a 0 i in
-        omega arith
 
 -- For any record sheet, version, byte order, alignment and output, where the header was written.
 module _ (k : Dialect) (a : ℕ) (s out : List ℕ) {end start : ℕ} (wrote : Written end start ≡ answerFor k a s out) where

@@ -1,9 +1,10 @@
 -- A header that was planned can be written: each number fits its field, and what a reader tests
 -- holds. Assumes nothing.
-use Prim.Native.Nat.{ℕ, suc, _^_, _≤_, _<_, max}
+use Prim.Native.Nat.{ℕ, suc, _%_, _^_, _≤_, _<_, max}
 use mathlib.Core.Path.{_≡_, refl, ap, subst, _∙_}
 use mathlib.Core.Bool.{Bool, true, false}
 use mathlib.Core.List.{List, [], _∷_, _++_, map}
+use native.Mathlib.Nat.{zero-mod}
 use native.Mathlib.Omega.{arith}
 use borrow.Author.Tests.{leb-true}
 use lib.Dec.{leb, eqb}
@@ -18,7 +19,9 @@ use Rattle.kinds.proofs.KindTable.{written-known}
 use Rattle.layout.specs.declared.Laid.{Laid}
 use Rattle.layout.specs.declared.Placed.{Placed}
 use Rattle.layout.specs.declared.Placed.the-variants.{At, Refused as NotPlaced}
-use Rattle.layout.specs.Layout.{nothingLaid, placeOf, layoutFrom}
+use Rattle.layout.specs.Layout.{nothingLaid, endAfter, placeOf, layoutFrom}
+use Rattle.layout.specs.Padding.{isMultiple}
+use Rattle.layout.proofs.Padding.{padded-multiple}
 use Rattle.layout.proofs.Places.{layout-stops, layout-goes-on, placed-by}
 use Rattle.values.specs.declared.Dialect.{Dialect}
 use Rattle.values.specs.Format.{sizeWidth, alignmentKey}
@@ -39,7 +42,7 @@ use Rattle.plan.proofs.Drafts.{padded-not-below}
 use Rattle.plan.proofs.PartLengths.{entry-length, stored-length, header-length, rows-more}
 use Rattle.plan.proofs.PlanTurns.{laid-ahead}
 use Rattle.writer.proofs.Planned.{PlannedBy, length-weights}
-use Rattle.promises.proofs.AlignmentKept.{alignment-said, added-small}
+use Rattle.promises.proofs.AlignmentKept.{above-zero, alignment-said, added-small}
 
 -- The entries.
 
@@ -109,6 +112,12 @@ weights-fit a laid i (t ∷ ts) low fits all =
         )
     by (NotPlaced w) e next = absurd (not-refused (fits ∙ ap laidOf (layout-stops a laid i (pieceOf t) (map pieceOf ts) e)))
 
+-- and their offsets are multiples of the alignment: the first is 0, and each next one is padded
+weights-aligned : (a : ℕ) → 0 < a → (laid : Laid) → laid .next % a ≡ 0 → (ts : List SheetTensor) → All (λ (t : TensorContent). isMultiple a (t .offset) ≡ true) (laidFrom a laid ts)
+weights-aligned a pos laid e [] = tt
+weights-aligned a pos laid e (t ∷ ts) =
+    (rw e refl, weights-aligned a pos (laidWith a laid t) (padded-multiple a pos (endAfter laid (lengths (t .parts .shape)) (t .parts .kind))) ts)
+
 -- The counts.
 
 -- no record is without bytes
@@ -170,4 +179,5 @@ module _ {k : Dialect} {a room : ℕ} {s : List ℕ} {plan : Plan} (p : PlannedB
         entries = entries-fit k a (p .records .entries) (p .added) (sheet-fits s all (p .is) k);
         tensors = weights-fit a nothingLaid 0 (p .records .tensors) (omega arith) (p .fits) (drawn-fit s all (p .is));
         start = rw planned-alignment starts;
+        aligned = rw planned-alignment (weights-aligned a (above-zero a (p .aligned)) nothingLaid (zero-mod a) (p .records .tensors));
       }

@@ -5,7 +5,7 @@ use mathlib.Core.Path.{_≡_, refl, ap}
 use mathlib.Core.Bool.{Bool, true, false, not}
 use mathlib.Core.List.{List, [], _∷_, map}
 use native.Mathlib.Omega.{arith}
-use lib.Dec.{leb, eqb, ltb}
+use lib.Dec.{eqb, ltb}
 use lib.IntN.{pos, negsuc}
 use lib.ListN.{length}
 use borrow.Author.Tests.{ltb-true, ne-eqb}
@@ -13,12 +13,9 @@ use mir.Syntax.{Width, w8, w16, w32, w64, w128}
 use mir.Val.{bits, hbits, ofZ}
 use Rattle.reading.specs.Choice.{if_then_else_}
 use Rattle.reading.specs.Back.{All, Sure}
-use Rattle.reading.specs.Each.{fold}
 use Rattle.reading.specs.Reading.{Reading, accepted}
 use Rattle.reading.specs.declared.Limits.{Limits}
-use Rattle.reading.proofs.SureLaws.{sure-then, sure-done, sure-here, sure-check, sure-if, sure-each, sure-under, whatever}
-use Rattle.kinds.specs.Shape.{greatest}
-use Rattle.layout.specs.Padding.{padded}
+use Rattle.reading.proofs.SureLaws.{sure-then, sure-done, sure-here, sure-if, sure-each, sure-under, whatever}
 use Rattle.scalars.specs.Scalars.{scalarWidth, scalarOf, scalarWord, signedOf}
 use Rattle.scalars.specs.declared.Scalar.the-variants.{U8, I8, U16, I16, U32, I32, F32, Bool as Truth, U64, I64, F64}
 use Rattle.scalars.proofs.Types.{_&_, below, scalar-typed}
@@ -36,7 +33,8 @@ use Rattle.tensors.specs.Contents.{tensorContent}
 use Rattle.tensors.specs.Rows.{tensorRow}
 use Rattle.start.specs.declared.Rooms.{Rooms}
 use Rattle.header.specs.Answers.{readerRun}
-use Rattle.header.specs.Format.{latest, FullHeader, header}
+use Rattle.header.specs.Format.{FullHeader, header}
+use Rattle.header.proofs.Judged.{sure-judged}
 use Rattle.promises.specs.RowContents.{valueInRow, entryInRow, tensorInRow}
 
 -- a signed number, in two's complement of 64 bits, has the bits that it was read from as its low
@@ -125,7 +123,7 @@ sure-rows s rooms cap p =
     sure-then whatever (λ c q u.
     sure-then (sure-each _ _ (λ z. sure-row (c .dialect) s cap) (c .entries) tt q) (λ es r h.
     sure-then whatever (λ ts o v.
-    sure-here _ (sure-check (leb (padded (fold latest 32 es) o) greatest) 18 o _ (λ e. sure-done (h .1))))))
+    sure-here _ (sure-judged c es ts o (λ tested. h .1)))))
 
 -- whatever the bytes, the ceilings, the cap and the tables are, the value of each entry that was
 -- read stands in its row

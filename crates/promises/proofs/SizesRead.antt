@@ -1,21 +1,17 @@
 -- What is read is told in full by what reads back: the size of a tensor is that of its shape and
 -- kind, and it is exact. Assumes nothing.
 use Prim.Native.Nat.{ℕ}
-use mathlib.Core.Path.{_≡_, refl, sym, subst, _∙_}
+use mathlib.Core.Path.{_≡_, refl, _∙_}
 use mathlib.Core.Bool.{true}
-use mathlib.Core.List.{List, [], _∷_, map}
-use lib.Dec.{leb}
-use lib.ListN.{length, take, drop, length-map}
-use lib.Seq.{take-at}
+use mathlib.Core.List.{List, [], _∷_}
+use lib.ListN.{length, take}
 use Rattle.reading.specs.Back.{Along, All, Sure}
-use Rattle.reading.specs.Each.{fold}
-use Rattle.reading.specs.Reading.{accepted, seen}
+use Rattle.reading.specs.Reading.{accepted}
 use Rattle.reading.specs.declared.Limits.{Limits}
-use Rattle.reading.proofs.Repetition.{seen-accepted}
-use Rattle.reading.proofs.SureLaws.{sure-then, sure-done, sure-here, sure-check, sure-each, sure-under, all-map, whatever}
-use Rattle.kinds.specs.Shape.{greatest, firstLength, wholeBlocks, productOf, sizeOf}
+use Rattle.reading.proofs.Onward.{all-so}
+use Rattle.reading.proofs.SureLaws.{sure-then, sure-here, sure-each, sure-under, whatever}
+use Rattle.kinds.specs.Shape.{firstLength, wholeBlocks, productOf, sizeOf}
 use Rattle.kinds.proofs.WholeBlocks.{whole-exact, size-exact, size-of-lines}
-use Rattle.layout.specs.Padding.{padded}
 use Rattle.values.specs.declared.Dialect.{Dialect}
 use Rattle.tensors.specs.declared.Tensor.{Tensor}
 use Rattle.tensors.specs.Format.{lengths, tensor, totalOf}
@@ -23,9 +19,10 @@ use Rattle.tensors.specs.Rows.{tensorRow}
 use Rattle.tensors.proofs.Fitting.{sure-fitting}
 use Rattle.start.specs.declared.Rooms.{Rooms}
 use Rattle.header.specs.declared.Header.{Header}
-use Rattle.header.specs.Answers.{readerRun, outcomeOf, readerOutcome}
-use Rattle.header.specs.Format.{latest, FullHeader, header}
-use Rattle.header.proofs.Counted.{Counted, counted}
+use Rattle.header.specs.Answers.{readerRun, readerOutcome}
+use Rattle.header.specs.Format.{FullHeader, header}
+use Rattle.header.proofs.Judged.{sure-judged}
+use Rattle.header.proofs.TableRows.{tensor-rows}
 use Rattle.promises.specs.Sizes.{ExactRow}
 
 -- a tensor whose first length is whole blocks, and whose numbers and bytes are those that its shape
@@ -54,7 +51,7 @@ module _ (s : List ℕ) where
       sure-then whatever (λ c q u.
       sure-then whatever (λ es r v.
       sure-then (sure-each {P = λ z. Measured} (tensor (c .dialect)) totalOf (λ z. sure-measured (c .dialect) z) (c .tensors) 0 r) (λ ts o h.
-      sure-here _ (sure-check (leb (padded (fold latest 32 es) o) greatest) 18 o _ (λ e. sure-done (each-alone Measured totalOf ts 0 (h .1)))))))
+      sure-here _ (sure-judged c es ts o (λ tested. each-alone Measured totalOf ts 0 (h .1))))))
 
 -- the row of a measured tensor is exact
 exact-row : (t : Tensor) → Measured t → ExactRow (tensorRow t)
@@ -68,13 +65,6 @@ exact-row t m =
       lines = m .size ∙ size-of-lines (x .first) others (t .kind) (m .whole);
     }
 
-exact-in : (es ts : List (List ℕ)) (w : FullHeader) (q : ℕ) → All Measured (w .tensors) → Counted (record { entries = length es; tensors = length ts }) w
-    → All ExactRow (take (w .head .tensors) (outcomeOf es ts (accepted w q) .tensors))
-unfolding seen
-exact-in es ts w q all c =
-    rw (take-at (map tensorRow (w .tensors)) (drop (length (w .tensors)) ts) (w .head .tensors) (length-map (w .tensors) tensorRow ∙ c .tensors))
-    (all-map ExactRow tensorRow exact-row (w .tensors) all)
-
 module _ (limits : Limits) (cap : ℕ) (es ts : List (List ℕ)) (s : List ℕ) where
   -- whatever the bytes, the ceilings, the cap and the tables are
   pub sizes-read : {w : FullHeader} {q : ℕ} → accepted w q ≡ readerRun limits cap es ts s → All Measured (w .tensors)
@@ -83,7 +73,4 @@ module _ (limits : Limits) (cap : ℕ) (es ts : List (List ℕ)) (s : List ℕ) 
   -- of the rows that a reader's caller has: where the answer is a header h, as many rows as it counts
   -- tell exact sizes
   pub rows-exact : {h : Header} {q : ℕ} → accepted h q ≡ readerOutcome limits cap es ts s .answer → All ExactRow (take (h .tensors) (readerOutcome limits cap es ts s .tensors))
-  rows-exact {h} {q} told =
-      let w = seen-accepted _ _ _ _ told in
-      subst (λ (x : Header). All ExactRow (take (x .tensors) (readerOutcome limits cap es ts s .tensors))) (sym (w .2))
-      (subst (λ r. All ExactRow (take (w .0 .head .tensors) (outcomeOf es ts r .tensors))) (w .1) (exact-in es ts (w .0) q (sizes-read (w .1)) (counted limits cap es ts s (w .1))))
+  rows-exact told = tensor-rows limits cap es ts s (λ h. ExactRow) (λ w q read. all-so exact-row (w .tensors) (sizes-read read)) told

@@ -4,7 +4,7 @@ use mathlib.Core.Path.{_≡_}
 use mathlib.Core.List.{List, [], _∷_, _++_, map}
 use mathlib.Core.Bool.{false}
 use lib.ListN.{replicate}
-use Rattle.reading.specs.Reading.{Answer, accepted, refused}
+use Rattle.reading.specs.Reading.{Answer, accepted, refused, seen}
 use Rattle.kinds.specs.declared.Measure.the-variants.{Bytes, Refused as Unmeasured}
 use Rattle.kinds.specs.Shape.{measureOf}
 use Rattle.layout.specs.Layout.{Piece, laidOut, layoutOf}
@@ -30,19 +30,26 @@ empty3 = 0x47 ∷ 0x47 ∷ 0x55 ∷ 0x46 ∷ 3 ∷ 0 ∷ 0 ∷ 0 ∷ replicate 1
 abbrev pub empty1 : List ℕ
 empty1 = 0x47 ∷ 0x47 ∷ 0x55 ∷ 0x46 ∷ 1 ∷ 0 ∷ 0 ∷ 0 ∷ replicate 8 0
 
--- version 3: a, of kind 0, with 5 numbers, at offset 0;
--- and b, of kind 1, with 3 numbers, at offset 32
-abbrev pub tensors3 : List ℕ
-tensors3 =
+-- version 3: a, of kind 0, with 5 numbers, at offset p; and b, of kind k, with 3 numbers, at offset q
+abbrev pub twoIn3 : ℕ → ℕ → ℕ → List ℕ
+twoIn3 p k q =
     0x47 ∷ 0x47 ∷ 0x55 ∷ 0x46 ∷ 3 ∷ 0 ∷ 0 ∷ 0 ∷ 2 ∷ 0 ∷ 0 ∷ 0 ∷ 0 ∷ 0 ∷ 0 ∷ 0 ∷ 0 ∷ 0 ∷ 0 ∷ 0 ∷ 0 ∷ 0 ∷ 0 ∷ 0 ∷
-    1 ∷ 0 ∷ 0 ∷ 0 ∷ 0 ∷ 0 ∷ 0 ∷ 0 ∷ 97 ∷ 1 ∷ 0 ∷ 0 ∷ 0 ∷ 5 ∷ 0 ∷ 0 ∷ 0 ∷ 0 ∷ 0 ∷ 0 ∷ 0 ∷ 0 ∷ 0 ∷ 0 ∷ 0 ∷ 0 ∷ 0 ∷ 0 ∷ 0 ∷ 0 ∷ 0 ∷ 0 ∷ 0 ∷
-    1 ∷ 0 ∷ 0 ∷ 0 ∷ 0 ∷ 0 ∷ 0 ∷ 0 ∷ 98 ∷ 1 ∷ 0 ∷ 0 ∷ 0 ∷ 3 ∷ 0 ∷ 0 ∷ 0 ∷ 0 ∷ 0 ∷ 0 ∷ 0 ∷ 1 ∷ 0 ∷ 0 ∷ 0 ∷ 32 ∷ 0 ∷ 0 ∷ 0 ∷ 0 ∷ 0 ∷ 0 ∷ 0 ∷ []
+    1 ∷ 0 ∷ 0 ∷ 0 ∷ 0 ∷ 0 ∷ 0 ∷ 0 ∷ 97 ∷ 1 ∷ 0 ∷ 0 ∷ 0 ∷ 5 ∷ 0 ∷ 0 ∷ 0 ∷ 0 ∷ 0 ∷ 0 ∷ 0 ∷ 0 ∷ 0 ∷ 0 ∷ 0 ∷ p ∷ 0 ∷ 0 ∷ 0 ∷ 0 ∷ 0 ∷ 0 ∷ 0 ∷
+    1 ∷ 0 ∷ 0 ∷ 0 ∷ 0 ∷ 0 ∷ 0 ∷ 0 ∷ 98 ∷ 1 ∷ 0 ∷ 0 ∷ 0 ∷ 3 ∷ 0 ∷ 0 ∷ 0 ∷ 0 ∷ 0 ∷ 0 ∷ 0 ∷ k ∷ 0 ∷ 0 ∷ 0 ∷ q ∷ 0 ∷ 0 ∷ 0 ∷ 0 ∷ 0 ∷ 0 ∷ 0 ∷ []
 
--- version 3: the tensor a alone, at offset 0, of the kind k, with these bytes of its shape
-abbrev pub alone3 : ℕ → List ℕ → List ℕ
-alone3 k shape =
+-- a at 0, and b, of kind 1, at 32
+abbrev pub tensors3 : List ℕ
+tensors3 = twoIn3 0 1 32
+
+-- version 3: the tensor a alone, at offset p, of the kind k, with these bytes of its shape
+abbrev pub aloneIn3 : ℕ → ℕ → List ℕ → List ℕ
+aloneIn3 p k shape =
     (0x47 ∷ 0x47 ∷ 0x55 ∷ 0x46 ∷ 3 ∷ 0 ∷ 0 ∷ 0 ∷ 1 ∷ 0 ∷ 0 ∷ 0 ∷ 0 ∷ 0 ∷ 0 ∷ 0 ∷ 0 ∷ 0 ∷ 0 ∷ 0 ∷ 0 ∷ 0 ∷ 0 ∷ 0 ∷
-    1 ∷ 0 ∷ 0 ∷ 0 ∷ 0 ∷ 0 ∷ 0 ∷ 0 ∷ 97 ∷ shape) ++ (k ∷ 0 ∷ 0 ∷ 0 ∷ 0 ∷ 0 ∷ 0 ∷ 0 ∷ 0 ∷ 0 ∷ 0 ∷ 0 ∷ [])
+    1 ∷ 0 ∷ 0 ∷ 0 ∷ 0 ∷ 0 ∷ 0 ∷ 0 ∷ 97 ∷ shape) ++ (k ∷ 0 ∷ 0 ∷ 0 ∷ p ∷ 0 ∷ 0 ∷ 0 ∷ 0 ∷ 0 ∷ 0 ∷ 0 ∷ [])
+
+-- the same at offset 0
+abbrev pub alone3 : ℕ → List ℕ → List ℕ
+alone3 k shape = aloneIn3 0 k shape
 
 -- the bytes of a shape of one length, low + 256 * high
 abbrev pub short : ℕ → ℕ → List ℕ
@@ -59,12 +66,26 @@ aligned3 =
     17 ∷ 0 ∷ 0 ∷ 0 ∷ 0 ∷ 0 ∷ 0 ∷ 0 ∷ 103 ∷ 101 ∷ 110 ∷ 101 ∷ 114 ∷ 97 ∷ 108 ∷ 46 ∷ 97 ∷ 108 ∷ 105 ∷ 103 ∷ 110 ∷ 109 ∷ 101 ∷ 110 ∷ 116 ∷
     4 ∷ 0 ∷ 0 ∷ 0 ∷ 64 ∷ 0 ∷ 0 ∷ 0 ∷ []
 
--- a and b in version 1
-abbrev pub tensors1 : List ℕ
-tensors1 =
+-- version 3: two entries, k of the u8 7 and then general.alignment of the u32 64; and a, of kind 0,
+-- with 5 numbers, at offset p
+abbrev pub alignedLast3 : ℕ → List ℕ
+alignedLast3 p =
+    0x47 ∷ 0x47 ∷ 0x55 ∷ 0x46 ∷ 3 ∷ 0 ∷ 0 ∷ 0 ∷ 1 ∷ 0 ∷ 0 ∷ 0 ∷ 0 ∷ 0 ∷ 0 ∷ 0 ∷ 2 ∷ 0 ∷ 0 ∷ 0 ∷ 0 ∷ 0 ∷ 0 ∷ 0 ∷
+    1 ∷ 0 ∷ 0 ∷ 0 ∷ 0 ∷ 0 ∷ 0 ∷ 0 ∷ 107 ∷ 0 ∷ 0 ∷ 0 ∷ 0 ∷ 7 ∷
+    17 ∷ 0 ∷ 0 ∷ 0 ∷ 0 ∷ 0 ∷ 0 ∷ 0 ∷ 103 ∷ 101 ∷ 110 ∷ 101 ∷ 114 ∷ 97 ∷ 108 ∷ 46 ∷ 97 ∷ 108 ∷ 105 ∷ 103 ∷ 110 ∷ 109 ∷ 101 ∷ 110 ∷ 116 ∷
+    4 ∷ 0 ∷ 0 ∷ 0 ∷ 64 ∷ 0 ∷ 0 ∷ 0 ∷
+    1 ∷ 0 ∷ 0 ∷ 0 ∷ 0 ∷ 0 ∷ 0 ∷ 0 ∷ 97 ∷ 1 ∷ 0 ∷ 0 ∷ 0 ∷ 5 ∷ 0 ∷ 0 ∷ 0 ∷ 0 ∷ 0 ∷ 0 ∷ 0 ∷ 0 ∷ 0 ∷ 0 ∷ 0 ∷ p ∷ 0 ∷ 0 ∷ 0 ∷ 0 ∷ 0 ∷ 0 ∷ 0 ∷ []
+
+-- a, at offset p, and b, at offset q, in version 1
+abbrev pub twoIn1 : ℕ → ℕ → List ℕ
+twoIn1 p q =
     0x47 ∷ 0x47 ∷ 0x55 ∷ 0x46 ∷ 1 ∷ 0 ∷ 0 ∷ 0 ∷ 2 ∷ 0 ∷ 0 ∷ 0 ∷ 0 ∷ 0 ∷ 0 ∷ 0 ∷
-    1 ∷ 0 ∷ 0 ∷ 0 ∷ 97 ∷ 1 ∷ 0 ∷ 0 ∷ 0 ∷ 5 ∷ 0 ∷ 0 ∷ 0 ∷ 0 ∷ 0 ∷ 0 ∷ 0 ∷ 0 ∷ 0 ∷ 0 ∷ 0 ∷ 0 ∷ 0 ∷ 0 ∷ 0 ∷ 0 ∷ 0 ∷ 0 ∷ 0 ∷
-    1 ∷ 0 ∷ 0 ∷ 0 ∷ 98 ∷ 1 ∷ 0 ∷ 0 ∷ 0 ∷ 3 ∷ 0 ∷ 0 ∷ 0 ∷ 0 ∷ 0 ∷ 0 ∷ 0 ∷ 1 ∷ 0 ∷ 0 ∷ 0 ∷ 32 ∷ 0 ∷ 0 ∷ 0 ∷ 0 ∷ 0 ∷ 0 ∷ 0 ∷ []
+    1 ∷ 0 ∷ 0 ∷ 0 ∷ 97 ∷ 1 ∷ 0 ∷ 0 ∷ 0 ∷ 5 ∷ 0 ∷ 0 ∷ 0 ∷ 0 ∷ 0 ∷ 0 ∷ 0 ∷ 0 ∷ 0 ∷ 0 ∷ 0 ∷ p ∷ 0 ∷ 0 ∷ 0 ∷ 0 ∷ 0 ∷ 0 ∷ 0 ∷
+    1 ∷ 0 ∷ 0 ∷ 0 ∷ 98 ∷ 1 ∷ 0 ∷ 0 ∷ 0 ∷ 3 ∷ 0 ∷ 0 ∷ 0 ∷ 0 ∷ 0 ∷ 0 ∷ 0 ∷ 1 ∷ 0 ∷ 0 ∷ 0 ∷ q ∷ 0 ∷ 0 ∷ 0 ∷ 0 ∷ 0 ∷ 0 ∷ 0 ∷ []
+
+-- the same at 0 and 32
+abbrev pub tensors1 : List ℕ
+tensors1 = twoIn1 0 32
 
 -- The record sheet of those two: lengths, tags, names, kinds and shapes.
 abbrev pub sheetAB : List ℕ
@@ -161,6 +182,17 @@ pub record Known : Type 0 where
   pub no-dimensions-row : tensorRow scalarA ≡ 32 ∷ 1 ∷ 0 ∷ 0 ∷ 1 ∷ 1 ∷ 1 ∷ 1 ∷ 0 ∷ 4 ∷ []
   pub too-long-read : readerRun full 0 [] ([] ∷ []) (alone3 0 (1 ∷ 0 ∷ 0 ∷ 0 ∷ 0 ∷ 0 ∷ 0 ∷ 0 ∷ 0 ∷ 0 ∷ 0 ∷ 64 ∷ [])) ≡ refused 14 24
   pub just-fits-read : readerRun full 0 [] ([] ∷ []) (alone3 0 (1 ∷ 0 ∷ 0 ∷ 0 ∷ 255 ∷ 255 ∷ 255 ∷ 255 ∷ 255 ∷ 255 ∷ 255 ∷ 63 ∷ [])) ≡ only (flat 32 0 (2 ^ 62 - 1) 0 (2 ^ 64 - 4)) 57
+  -- b at 33 is refused at its offset, in either version; where a is misaligned too, it is refused at
+  -- a's, unless the kind of b is none; a tensor of no bytes is tested too
+  pub misaligned-3 : readerRun full 0 [] ([] ∷ [] ∷ []) (twoIn3 0 1 33) ≡ refused 16 82
+  pub misaligned-1 : readerRun full 0 [] ([] ∷ [] ∷ []) (twoIn1 0 33) ≡ refused 16 66
+  pub misaligned-first : readerRun full 0 [] ([] ∷ [] ∷ []) (twoIn3 1 1 33) ≡ refused 16 49
+  pub misaligned-unknown : readerRun full 0 [] ([] ∷ [] ∷ []) (twoIn3 1 40 32) ≡ refused 11 78
+  pub misaligned-empty : readerRun full 0 [] ([] ∷ []) (aloneIn3 8 0 (short 0 0)) ≡ refused 16 49
+  -- an alignment of 64 that is the last entry decides: 32 is misaligned, and 64 is not
+  pub misaligned-last : readerRun full 0 ([] ∷ [] ∷ []) ([] ∷ []) (alignedLast3 32) ≡ refused 16 96
+  pub aligned-last : seen (λ w. w .head) (readerRun full 0 ([] ∷ [] ∷ []) ([] ∷ []) (alignedLast3 64))
+      ≡ accepted (record { version = 3; big = false; entries = 2; tensors = 1; alignment = 64; end = 104; start = 128 }) 104
   -- a sheet of no bytes is refused, whatever the output
   pub no-sheet : (out : List ℕ) → answerFor (little 3) 32 [] out ≡ NotWritten 31 0
   -- the sheet of the byte 1: 24 bytes, then 8 zeros; and, with alignment 64, 57 bytes, then 7 zeros

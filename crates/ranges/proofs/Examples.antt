@@ -28,8 +28,8 @@ no-tensors = refl
 
 -- Sums that would wrap in 64 bits: the rows of three stored files of crates/listing_cases.
 
--- fault_offset_and_size_whose_sum_wraps, 20 bytes at 2 ^ 64 - 16: in 64 bits they would end at 68
-wrapping-offset : checkFrom 64 134 0 ((32 ∷ 1 ∷ 0 ∷ 1 ∷ 5 ∷ 1 ∷ 1 ∷ 1 ∷ 18446744073709551600 ∷ 20 ∷ []) ∷ []) ≡ Refused 20 0
+-- fault_offset_and_size_whose_sum_wraps, 36 bytes at 2 ^ 64 - 32: in 64 bits they would end at 68
+wrapping-offset : checkFrom 64 134 0 ((32 ∷ 1 ∷ 0 ∷ 1 ∷ 9 ∷ 1 ∷ 1 ∷ 1 ∷ 18446744073709551584 ∷ 36 ∷ []) ∷ []) ≡ Refused 20 0
 wrapping-offset = refl
 
 -- the rows of fault_sizes_whose_sum_wraps: 2 ^ 64 - 4 bytes at 0, and 8 bytes at 0
@@ -40,11 +40,14 @@ rowsOfTU = (32 ∷ 1 ∷ 0 ∷ 1 ∷ 4611686018427387903 ∷ 1 ∷ 1 ∷ 1 ∷ 0
 wrapping-size : checkFrom 96 134 0 rowsOfTU ≡ Refused 20 0
 wrapping-size = refl
 
--- fault_alignment_of_2_64_less_8, whose data starts there: in 64 bits a would end at 12, and b at
--- 30
-wrapping-start : checkFrom 18446744073709551608 134 0 rowsOfAB ≡ Refused 20 0
+-- the rows of fault_alignment_of_2_64_less_8: a at 0, and b at the alignment
+abbrev rowsFarApart : List (List ℕ)
+rowsFarApart = (69 ∷ 1 ∷ 0 ∷ 1 ∷ 5 ∷ 1 ∷ 1 ∷ 1 ∷ 0 ∷ 20 ∷ []) ∷ (102 ∷ 1 ∷ 1 ∷ 1 ∷ 3 ∷ 1 ∷ 1 ∷ 1 ∷ 18446744073709551608 ∷ 6 ∷ []) ∷ []
+
+-- its data starts at the alignment too: in 64 bits a would end at 12
+wrapping-start : checkFrom 18446744073709551608 134 0 rowsFarApart ≡ Refused 20 0
 wrapping-start = refl
 
 -- a sum that just fits is no refusal: an end of 2 ^ 64 - 1 in a file of as many bytes
-largest-end : checkFrom 96 18446744073709551615 0 ((32 ∷ 1 ∷ 0 ∷ 1 ∷ 5 ∷ 1 ∷ 1 ∷ 1 ∷ 18446744073709551499 ∷ 20 ∷ []) ∷ []) ≡ Inside
+largest-end : checkFrom 64 18446744073709551615 0 ((32 ∷ 1 ∷ 24 ∷ 1 ∷ 31 ∷ 1 ∷ 1 ∷ 1 ∷ 18446744073709551520 ∷ 31 ∷ []) ∷ []) ≡ Inside
 largest-end = refl

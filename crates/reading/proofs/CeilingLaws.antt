@@ -86,6 +86,15 @@ pub let-through : {A : Type 0} (l : Limits) (ks : List Mark) (r : Answer A) {a :
 let-through l [] r e = e
 let-through l (k ∷ ks) r e = let-through-one (within l k) (orTooNew l ks r) (tooNew (k .which)) (k .place) (let-through l ks r) e
 
+below-one : {A : Type 0} (b : Bool) (x : Answer A) (w o : ℕ) {n p : ℕ} {r : Answer A} → (n ≡ w → ⊥) → (refused n p ≡ x → refused n p ≡ r) → refused n p ≡ (if b then x else refused w o) → refused n p ≡ r
+below-one true x w o other f e = f e
+below-one false x w o {n} other f e = let i : n ≡ w = cc in absurd (other i)
+
+-- what is refused, and not for being too new, was refused before
+pub refused-below : {A : Type 0} (l : Limits) (ks : List Mark) (r : Answer A) {n p : ℕ} → ((x : Which) → n ≡ tooNew x → ⊥) → refused n p ≡ orTooNew l ks r → refused n p ≡ r
+refused-below l [] r other e = e
+refused-below l (k ∷ ks) r other e = below-one (within l k) (orTooNew l ks r) (tooNew (k .which)) (k .place) (other (k .which)) (refused-below l ks r other) e
+
 -- the same from a reader with the ceilings of the whole format, where they let every mark through
 pub ceilings-from : {A : Type 0} (full l : Limits) (m : Reading A) (s : List ℕ) (at : ℕ) → allWithin full (marks m s at) ≡ true
     → run (under l m) s at ≡ orTooNew l (marks m s at) (run (under full m) s at)

@@ -6,3 +6,4 @@ pub mod SureLaws
 pub mod RunLaws
 pub mod Onward
 pub mod RefusalLaws
+pub mod EachChecked

@@ -45,17 +45,19 @@ mark-refused P false w o s p n q h e =
     rw (i, j) h
 
 module _ {l : Limits} {s : List ℕ} {P : ℕ → ℕ → Type 0} where
-  -- one program after another, where what the first read may matter
+  -- one program after another, where what the first read may matter; it ends within the bytes
   pub refuses-after : {A B : Type 0} {m : Reading A} {f : A → Reading B} → Refuses l s P m
-      → ((a : A) (p q : ℕ) → accepted a q ≡ run (under l m) s p → Refuses l s P (f a)) → Refuses l s P (m >>= f)
+      → ((a : A) (p q : ℕ) → accepted a q ≡ run (under l m) s p → q ≤ length s → Refuses l s P (f a)) → Refuses l s P (m >>= f)
   refuses-after {m = m} {f} first second = record {
     refusal = λ p low n q e.
         refused-then (run (under l m) s p) _ (first .refusal p low n q)
-        (λ a o g h. second a p o g .refusal o (omega (arith, inside (under l m) s p g)) n q h) (e ∙ run-under l m f s p);
+        (λ a o g h.
+        let within : o ≤ length s = omega (arith, inside (under l m) s p g) in
+        second a p o g within .refusal o within n q h) (e ∙ run-under l m f s p);
   }
 
   pub refuses-then : {A B : Type 0} {m : Reading A} {f : A → Reading B} → Refuses l s P m → ((a : A) → Refuses l s P (f a)) → Refuses l s P (m >>= f)
-  refuses-then first second = refuses-after first (λ a p q e. second a)
+  refuses-then first second = refuses-after first (λ a p q e within. second a)
 
   pub refuses-done : {A : Type 0} {a : A} → Refuses l s P (done a)
   unfolding run under

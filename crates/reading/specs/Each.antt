@@ -1,9 +1,10 @@
--- Repetition: so many times a program, with or without a state that goes through it; and the table
--- that its rows fill.
+-- Repetition: so many times a program, with or without a state that goes through it; a test of each
+-- of a list; and the table that its rows fill.
 use Prim.Native.Nat.{ℕ, zero, suc}
+use mathlib.Core.Bool.{Bool}
 use mathlib.Core.List.{List, [], _∷_, _++_, map}
 use lib.ListN.{length, drop}
-use Rattle.reading.specs.Reading.{Reading, done, Answer, accepted, refused, _>>=_}
+use Rattle.reading.specs.Reading.{Reading, done, Answer, accepted, refused, _>>=_, _>>_, check}
 
 -- n times a program that is given the state so far, which what it read then changes; and what each
 -- time read
@@ -17,6 +18,12 @@ each m f (suc n) z = do
 -- n times the same program: nothing goes through it
 abbrev pub times : {A : Type 0} → ℕ → Reading A → Reading (List A)
 times n m = each {S = Unit {0}} (λ z. m) (λ z a. z) n tt
+
+-- goes on where the test holds of each of a list, and else is refusal n, at the place of the first
+-- of which it does not
+unfoldable pub checkEach : {A : Type 0} → (A → Bool) → ℕ → (A → ℕ) → List A → Reading (Unit {0})
+checkEach test n placeOf [] = done tt
+checkEach test n placeOf (a ∷ l) = check (test a) n (placeOf a) >> checkEach test n placeOf l
 
 -- the state after all of them
 abbrev pub fold : {S A : Type 0} → (S → A → S) → S → List A → S

@@ -49,7 +49,7 @@ module _ {l : Limits} {s : List ℕ} {P : ℕ → ℕ → Type 0} (given : (n q 
   refuses-counts : (k : Dialect) → Refuses l s P (counts rooms k)
   unfolding counts
   refuses-counts k =
-      refuses-here _ (λ p low. refuses-after (refuses-size k (λ q h. given 1 q refl h)) (λ n at o e. refuses-here _ (λ q there. refuses-after (refuses-size k (λ u h. given 1 u refl h)) (λ m from u f.
+      refuses-here _ (λ p low. refuses-after (refuses-size k (λ q h. given 1 q refl h)) (λ n at o e near. refuses-here _ (λ q there. refuses-after (refuses-size k (λ u h. given 1 u refl h)) (λ m from u f far.
       refuses-then (refuses-check (leb n (rooms .tensors)) 6 p (λ g. sure-under l (lacking k at) .holds n o e p low .0 (leb-false n (rooms .tensors) g))) (λ v.
       refuses-then (refuses-check (leb m (rooms .entries)) 6 q (λ g. sure-under l (lacking k from) .holds m u f q there .1 (leb-false m (rooms .entries) g))) (λ w. refuses-done))))))
 

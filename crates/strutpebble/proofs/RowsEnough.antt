@@ -11,19 +11,18 @@ use borrow.Author.Tests.{le-leb}
 use Rattle.reading.specs.Back.{Sure}
 use Rattle.reading.specs.Ceilings.{under}
 use Rattle.reading.specs.Each.{each, times, fold}
-use Rattle.reading.specs.Reading.{Reading, done, Answer, accepted, refused, run, _>>=_, here, andThen, seen, passed}
+use Rattle.reading.specs.Reading.{Reading, done, Answer, accepted, refused, run, _>>=_, here, andThen, seen}
 use Rattle.reading.specs.declared.Limits.{Limits}
 use Rattle.reading.proofs.CeilingLaws.{under-bind, run-under}
 use Rattle.reading.proofs.RunLaws.{run-bind}
 use Rattle.reading.proofs.SureLaws.{sure-then, sure-done, sure-here, sure-check, sure-run, sure-under, whatever}
 use Rattle.reading.proofs.Repetition.{seen-accepted}
 use Rattle.values.specs.Format.{size, key, value, keeping, entry}
-use Rattle.tensors.specs.Format.{tensor, totalOf}
 use Rattle.values.specs.declared.Dialect.{Dialect}
 use Rattle.values.specs.declared.Entry.{Entry}
 use Rattle.values.specs.declared.Key.{Key}
 use Rattle.values.specs.declared.Value.{Value}
-use Rattle.header.specs.Answers.{headerIfItFits, readerRun}
+use Rattle.header.specs.Answers.{readerRun}
 use Rattle.header.specs.Format.{latest, header}
 use Rattle.start.specs.Format.{magic, version, counts, start}
 use Rattle.header.specs.declared.Header.{Header}
@@ -34,7 +33,8 @@ use Rattle.start.specs.declared.Start.{Start}
 use Rattle.header.proofs.DataStart.{kept-alignment}
 use Rattle.start.proofs.StartMarks.{under-counts}
 use Rattle.start.proofs.RowsForCounts.{Room}
-use Rattle.header.proofs.Stages.{Started, Aligned, Ended, no-entries, no-tensors, no-data, reached}
+use Rattle.header.proofs.Judged.{sure-judged}
+use Rattle.header.proofs.Stages.{Started, Aligned, told, no-entries, no-header, reached}
 use Rattle.start.specs.Format.{enough}
 use Rattle.words.specs.Words.{measured}
 
@@ -139,21 +139,15 @@ module _ (l : Limits) (cap : ℕ) (rooms : Rooms) (s : List ℕ) (c : Start) (p 
   abbrev ours : Answer Header
   ours = seen (λ w. w .head) (run (under l (header rooms cap)) s 0)
 
-  same-end : (a q : ℕ) → Aligned l enough 3 s c p a q → Aligned l rooms cap s c p a q → (e : ℕ) → Ended l enough 3 s c q e → (h : HeaderRead) → h ≡ headerIfItFits c a e → ours ≡ measured l s
+  same-told : (a q : ℕ) → Aligned l enough 3 s c p a q → Aligned l rooms cap s c p a q → (h : HeaderRead) → h ≡ told l rooms cap s c a q → ours ≡ measured l s
   unfolding seen
-  same-end a q f g e i (Refused n u) t =
-      ap (seen (λ w. w .head)) (no-data l rooms cap s begins g i t ∙ sym (no-data l enough 3 s began f i t))
-  same-end a q f g e i (Found h) t =
-      ap (seen (λ w. w .head)) (reached l rooms cap s begins g i t .all) ∙ sym (ap (seen (λ w. w .head)) (reached l enough 3 s began f i t .all))
-
-  same-tensors : (a q : ℕ) → Aligned l enough 3 s c p a q → Aligned l rooms cap s c p a q
-      → (r : Answer (Unit {0})) → r ≡ passed (run (each (λ z. under l (tensor (c .dialect) z)) totalOf (c .tensors) 0) s q) → ours ≡ measured l s
-  same-tensors a q f g (accepted x e) i = same-end a q f g e i (headerIfItFits c a e) refl
-  same-tensors a q f g (refused n u) i =
-      ap (seen (λ w. w .head)) (no-tensors l rooms cap s begins g i ∙ sym (no-tensors l enough 3 s began f i))
+  same-told a q f g (Refused n u) t =
+      ap (seen (λ w. w .head)) (no-header l rooms cap s begins g t ∙ sym (no-header l enough 3 s began f t))
+  same-told a q f g (Found h) t =
+      ap (seen (λ w. w .head)) (reached l rooms cap s begins g t .all) ∙ sym (ap (seen (λ w. w .head)) (reached l enough 3 s began f t .all))
 
   same-entries : (r : Answer ℕ) → r ≡ seen (fold latest 32) (run (times (c .entries) (entry (c .dialect) 3)) s p) → ours ≡ measured l s
-  same-entries (accepted a q) f = same-tensors a q f (f ∙ entries-same (c .dialect) 3 cap s (c .entries) 32 p) _ refl
+  same-entries (accepted a q) f = same-told a q f (f ∙ entries-same (c .dialect) 3 cap s (c .entries) 32 p) _ refl
   same-entries (refused n q) f =
       ap (seen (λ w. w .head)) (no-entries l rooms cap s begins (f ∙ entries-same (c .dialect) 3 cap s (c .entries) 32 p) ∙ sym (no-entries l enough 3 s began f))
 
@@ -174,7 +168,7 @@ sure-begun : (l : Limits) (s : List ℕ) → Sure s (under l (header enough 3)) 
 unfolding header
 sure-begun l s =
     sure-limited l s (start enough) _ (sure-run whatever) (λ c p e. sure-under l (sure-then whatever (λ es q u. sure-then whatever (λ ts r v.
-    sure-here _ (sure-then whatever (λ x o y. sure-done (record { c = c; p = p; began = e .1; entries = refl; tensors = refl })))))))
+    sure-here _ (sure-judged c es ts r (λ tested. record { c = c; p = p; began = e .1; entries = refl; tensors = refl }))))))
 
 -- what is measured is read, with any cap, by whoever has as many rows as it counts
 pub rows-enough : (l : Limits) (cap : ℕ) (es ts : List (List ℕ)) (s : List ℕ) {h : Header} {q : ℕ} → accepted h q ≡ measured l s

@@ -18,7 +18,7 @@ use Rattle.reading.proofs.SureLaws.{sure-then, sure-done, sure-here, sure-mark,
 use Rattle.reading.proofs.Repetition.{each-never}
 use Rattle.kinds.specs.Shape.{productsFit, sizeFits}
 use Rattle.kinds.specs.Table.{knownKind}
-use Rattle.tensors.specs.Format.{lengths, lengthAt, lengthsOf, shape, kindAndOffset, tensor, totalOf}
+use Rattle.tensors.specs.Format.{lengths, lengthAt, lengthsOf, shape, kindAndOffset, tensor, offsetPlace, totalOf}
 use Rattle.values.specs.Format.{sizeWidth, size, textLooking, text}
 use Rattle.tensors.specs.Steps.{lengthIn, shapeIn, inOrder, afterName, tensorOf}
 use Rattle.values.specs.declared.Dialect.{Dialect}
@@ -33,6 +33,10 @@ use Rattle.tensors.proofs.Fitting.{sure-fitting}
 held : {A : Type 0} (r : Answer A) → isAccepted r ≡ true → (a : A) × (q : ℕ) × (accepted a q ≡ r)
 held (accepted a q) h = (a, q, refl)
 held (refused n p) h = let z : _≡_ {A = ℕ} 0 1 = cc in absurd (omega arith)
+
+-- what one answer holds, twice
+same-parts : {A : Type 0} {a b : A} {p q : ℕ} → accepted a p ≡ accepted b q → (a ≡ b) × (p ≡ q)
+same-parts e = (cc, cc)
 
 -- v is the number of the field of w bytes at p, which is wholly there, and q is the place after it
 record Field (s : List ℕ) (w : ℕ) (big : Bool) (p v q : ℕ) : Type 0 where
@@ -210,6 +214,17 @@ sure-parts k s total p =
       products = tested .products;
       size = tested .size;
     }))))))
+
+-- a tensor's offset is its last field
+pub offset-last : (k : Dialect) (s : List ℕ) (total p : ℕ) → Sure s (tensor k total) p (λ t q. q ≡ offsetPlace t + 8)
+offset-last k s total p =
+    sure-so (sure-parts k s total p) (λ t q h.
+    let n = same-parts (sure-name k s p .holds (h .name) (h .middle) (h .named) .is) in
+    let r = same-parts (sure-rest s (h .middle) (k .big) .holds (h .again) (h .again .next) (h .rested) .is) in
+    let place = ap (λ (a : Span). a .place) (n .0) in
+    let len = ap (λ (a : Span). a .len) (n .0) in
+    let dimensions = ap (λ (x : AfterName). x .shape .dimensions) (r .0) in
+    subst (λ (x : Tensor). q ≡ offsetPlace x + 8) (h .is) (omega (arith, place, len, n .1, dimensions, r .1, h .ends)))
 
 -- a name and what stands after it are a tensor, where the total is the one given, and all of it
 -- fits

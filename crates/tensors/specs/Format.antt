@@ -7,7 +7,7 @@
 --   13  a product of lengths above 2 ^ 64 - 1, at the tensor's start
 --   14  a size before its division above 2 ^ 64 - 1, at the tensor's start
 --   15  a running total of products above 2 ^ 64 - 1, at the tensor's start
-use Prim.Native.Nat.{ℕ, _+_}
+use Prim.Native.Nat.{ℕ, _+_, _*_}
 use mathlib.Core.List.{List, [], _∷_}
 use lib.Dec.{leb, ltb}
 use Rattle.reading.specs.Choice.{if_then_else_}
@@ -78,6 +78,11 @@ tensor k total = do
   x ← shape k
   y ← kindAndOffset k
   fitting p total name x y
+
+-- the place of a tensor's offset: past its name, the count of its dimensions, its lengths and its
+-- kind
+abbrev pub offsetPlace : Tensor → ℕ
+offsetPlace t = t .name .place + t .name .len + 4 + 8 * t .shape .dimensions + 4
 
 -- the total after a tensor
 abbrev pub totalOf : ℕ → Tensor → ℕ

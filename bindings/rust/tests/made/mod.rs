@@ -85,7 +85,12 @@ impl Made {
 
 /// The tensors a (kind 0, length 5) and b (kind 1, length 3).
 pub fn a_and_b(version: u32, big: bool) -> Vec<u8> {
-    made(version, big, 2, 0).tensor("a", &[5], 0, 0).tensor("b", &[3], 1, 32).bytes.clone()
+    a_and_b_at(version, big, 0, 32)
+}
+
+/// The same two at other offsets.
+pub fn a_and_b_at(version: u32, big: bool, a: u64, b: u64) -> Vec<u8> {
+    made(version, big, 2, 0).tensor("a", &[5], 0, a).tensor("b", &[3], 1, b).bytes.clone()
 }
 
 /// A header of so many of the shortest records: keys and names of no bytes, values of one byte, and

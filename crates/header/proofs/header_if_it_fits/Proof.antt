@@ -1,7 +1,9 @@
 -- `header::header_if_it_fits` meets its contract: `layout::pad` answers where the data starts, or
--- that this does not fit. Assumes nothing.
+-- that this does not fit, and a place that was noted is not 0. Assumes nothing.
 use borrow.Author.Needs.{needs}
-use mathlib.Core.Path.{sym, _∙_}
+use borrow.Author.Tests.{eq-eqb, ne-eqb}
+use mathlib.Core.Bool.{true}
+use mathlib.Core.Path.{_≡_, sym, _∙_}
 use lib.Dec.{leb}
 use Rattle.kinds.specs.Shape.{greatest}
 use Rattle.kinds.proofs.Products.{answered, refused}
@@ -9,17 +11,26 @@ use Rattle.layout.specs.Padding.{padded}
 use Rattle.header.proofs.header_if_it_fits.Statement.{statement}
 use Rattle.header.proofs.header_if_it_fits.Tie as tie
 
-returns : tie.Need-returns
-returns c =
+-- the start of the data, where it fits
+fits : (c : tie.After-value) →
     let a = c .before .before .before .args in
-    rw (refused (leb (padded (a .alignment) (a .end)) greatest) _ (sym (c .enum-told .given .1) ∙ c .before .before .pad .ensures))
+    (leb (padded (a .alignment) (a .end)) greatest ≡ true) × (padded (a .alignment) (a .end) ≡ c .value .given .0 .0)
+fits c =
+    let a = c .before .before .before .args in
+    answered (leb (padded (a .alignment) (a .end)) greatest) (padded (a .alignment) (a .end)) (sym (c .value .given .1) ∙ c .before .before .pad .ensures)
+
+returns : tie.Need-returns
+returns c = rw (fits (c .before .before) .0, ne-eqb _ _ (c .if1 .taken))
 
 returns-2 : tie.Need-returns-2
 returns-2 c =
-    let v = c .before .before in
-    let a = v .before .before .before .args in
-    let fits = answered (leb (padded (a .alignment) (a .end)) greatest) (padded (a .alignment) (a .end)) (sym (v .value .given .1) ∙ v .before .before .pad .ensures) in
-    rw (fits .0, fits .1)
+    let a = c .before .before .before .args in
+    rw (refused (leb (padded (a .alignment) (a .end)) greatest) _ (sym (c .enum-told .given .1) ∙ c .before .before .pad .ensures))
+
+returns-3 : tie.Need-returns-3
+returns-3 c =
+    let f = fits (c .before .before .before) in
+    rw (f .0, eq-eqb _ _ (c .before .if1 .left), f .1)
 
 pub header-if-it-fits-spec : {M : Type 1} → statement M
 header-if-it-fits-spec =
@@ -29,4 +40,5 @@ header-if-it-fits-spec =
     (λ c. search needs)
     (λ c. search needs)
     returns
-    returns-2)
+    returns-2
+    returns-3)

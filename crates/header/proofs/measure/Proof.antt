@@ -1,13 +1,13 @@
 -- `header::measure` meets its contract: the stages are those of the whole run, whose refusals it
 -- hands on, and where all is there it tells the header. Assumes nothing.
 use borrow.Author.Needs.{needs}
-use mathlib.Core.Path.{refl, sym, ap, _∙_}
+use mathlib.Core.Path.{_≡_, refl, sym, ap, _∙_}
 use denote.Ref.{now}
 use Rattle.reading.specs.Reading.{seen}
 use Rattle.fields.specs.Value.{asNumber}
-use Rattle.values.specs.Answers.{asPassed}
 use Rattle.start.specs.Answers.{asStart}
-use Rattle.header.proofs.Stages.{Started, Aligned, Ended, no-start, no-entries, no-tensors, all-told}
+use Rattle.header.specs.Steps.{headerAfter}
+use Rattle.header.proofs.Stages.{Started, Aligned, told, no-start, no-entries, above, all-told}
 use Rattle.header.proofs.measure.Statement.{statement}
 use Rattle.header.proofs.measure.Tie as tie
 
@@ -26,12 +26,19 @@ aligned : (c : tie.After-alignment) →
     Aligned (z .args .limits) (z .args .rooms) (z .args .cap) (now (z .args .s)) (g .0) (g .1 .0) (h .0) (h .1 .0)
 aligned c = ap asNumber (sym (c .alignment .given .1)) ∙ c .before .before .pass-entries .ensures
 
-ended : (c : tie.After-end) →
+-- what is told of the header
+tells : (c : tie.After-header-after) →
     let d = c .before .before .before .before in
     let b = d .before .before .before .before .before in
     let z = b .before .before .before .before in
-    Ended (z .args .limits) (z .args .rooms) (z .args .cap) (now (z .args .s)) (b .start .given .0 .0) (d .alignment .given .0 .1 .0) (c .end .given .0 .0)
-ended c = ap asPassed (sym (c .end .given .1)) ∙ c .before .before .pass-tensors .ensures
+    let h = d .alignment .given .0 in
+    c .header-after .result ≡ told (z .args .limits) (z .args .rooms) (z .args .cap) (now (z .args .s)) (b .start .given .0 .0) (h .0) (h .1 .0)
+tells c = c .header-after .ensures ∙ ap (headerAfter _ _) (c .before .pass-tensors .ensures)
+
+pass-tensors-requires : tie.Need-pass-tensors-requires
+pass-tensors-requires c κs =
+    let d = c .before .before in
+    above _ _ _ _ (started (d .before .before .before .before .before)) (aligned d)
 
 returns : tie.Need-returns
 unfolding seen
@@ -46,17 +53,9 @@ returns-2 c =
     rw (no-entries _ _ _ _ (started (c .before .before .before .before .before .before)) r) refl
 
 returns-3 : tie.Need-returns-3
-unfolding seen
 returns-3 c =
-    let r = ap asPassed (sym (c .before .why3 .given .1)) ∙ c .before .before .before .pass-tensors .ensures in
-    let d = c .before .before .before .before .before in
-    rw (no-tensors _ _ _ _ (started (d .before .before .before .before .before)) (aligned d) r) refl
-
-returns-4 : tie.Need-returns-4
-returns-4 c =
-    let e = c .before .before in
-    let d = e .before .before .before .before in
-    all-told _ _ _ _ (started (d .before .before .before .before .before)) (aligned d) (ended e) _ (c .header-if-it-fits .ensures)
+    let d = c .before .before .before .before in
+    all-told _ _ _ _ (started (d .before .before .before .before .before)) (aligned d) _ (tells c)
 
 pub measure-spec : {M : Type 1} → statement M
 measure-spec =
@@ -68,11 +67,8 @@ measure-spec =
     (λ c κs. search needs)
     (λ c. search needs)
     (λ c. search needs)
-    (λ c κs. search needs)
-    (λ c. search needs)
-    (λ c. search needs)
+    pass-tensors-requires
     (λ c κs. search needs)
     returns
     returns-2
-    returns-3
-    returns-4)
+    returns-3)

@@ -1,18 +1,18 @@
 -- `header::read` meets its contract: each stage that refuses ends the run, and past the last one
 -- both tables are filled. Assumes nothing.
-use mathlib.Core.Path.{refl, sym, ap, _∙_}
+use mathlib.Core.Path.{_≡_, refl, sym, ap, _∙_}
 use borrow.Author.Needs.{needs}
 use denote.Ref.{now}
 use lib.ListN.{length}
 use Rattle.reading.specs.Each.{filled}
 use Rattle.reading.specs.Reading.{isAccepted, seen}
 use Rattle.fields.specs.Value.{asNumber}
-use Rattle.values.specs.Answers.{asPassed}
 use Rattle.values.specs.Rows.{entryRow}
 use Rattle.tensors.specs.Rows.{tensorRow}
 use Rattle.start.specs.declared.Rooms.{Rooms}
 use Rattle.start.specs.Answers.{asStart}
-use Rattle.header.proofs.Stages.{Started, Aligned, Ended, Passed, no-start, no-entries, no-tensors, no-data, reached}
+use Rattle.header.specs.Steps.{headerAfter}
+use Rattle.header.proofs.Stages.{Started, Aligned, told, Passed, no-start, no-entries, above, no-header, reached}
 use Rattle.header.proofs.read.Statement.{statement}
 use Rattle.header.proofs.read.Tie as tie
 
@@ -35,31 +35,37 @@ aligned : (c : tie.After-alignment) →
     Aligned (z .args .limits) (rooms z) (z .args .cap) (now (z .args .s)) (g .0) (g .1 .0) (h .0) (h .1 .0)
 aligned c = ap asNumber (sym (c .alignment .given .1)) ∙ c .before .before .before .test-entries .ensures .0
 
-ended : (c : tie.After-end) →
+-- what is told of the header
+tells : (c : tie.After-header-after) →
     let d = c .before .before .before .before in
     let b = d .before .before .before .before .before .before in
     let z = b .before .before .before .before in
-    Ended (z .args .limits) (rooms z) (z .args .cap) (now (z .args .s)) (b .start .given .0 .0) (d .alignment .given .0 .1 .0) (c .end .given .0 .0)
-ended c = ap asPassed (sym (c .end .given .1)) ∙ c .before .before .pass-tensors .ensures
+    let h = d .alignment .given .0 in
+    c .header-after .result ≡ told (z .args .limits) (rooms z) (z .args .cap) (now (z .args .s)) (b .start .given .0 .0) (h .0) (h .1 .0)
+tells c = c .header-after .ensures ∙ ap (headerAfter _ _) (c .before .pass-tensors .ensures)
 
 -- all that is known where a header was told
 known : (c : tie.After-header) →
-    let e = c .before .before .before .before in
-    let d = e .before .before .before .before in
+    let d = c .before .before .before .before .before .before in
     let b = d .before .before .before .before .before .before in
     let z = b .before .before .before .before in
     let g = b .start .given .0 in
     let h = d .alignment .given .0 in
-    Passed (z .args .limits) (rooms z) (z .args .cap) (now (z .args .s)) (g .0) (g .1 .0) (h .0) (h .1 .0) (e .end .given .0 .0) (c .header .given .0 .0)
+    Passed (z .args .limits) (rooms z) (z .args .cap) (now (z .args .s)) (g .0) (g .1 .0) (h .1 .0) (c .header .given .0 .0)
 known c =
-    let e = c .before .before .before .before in
+    let e = c .before .before in
     let d = e .before .before .before .before in
-    reached _ _ _ _ (started (d .before .before .before .before .before .before)) (aligned d) (ended e) (sym (c .header .given .1) ∙ c .before .before .header-if-it-fits .ensures)
+    reached _ _ _ _ (started (d .before .before .before .before .before .before)) (aligned d) (sym (c .header .given .1) ∙ tells e)
+
+pass-tensors-requires : tie.Need-pass-tensors-requires
+pass-tensors-requires c κs =
+    let d = c .before .before in
+    above _ _ _ _ (started (d .before .before .before .before .before .before)) (aligned d)
 
 fill-requires : tie.Need-fill-requires
 fill-requires c κs =
     let t = c .before .before .before .before in
-    let d = t .before .before .before .before .before .before .before .before in
+    let d = t .before .before .before .before .before .before in
     let k = known t in
     (k .room, (ap isAccepted (sym (k .entries)), (d .before .before .before .test-entries .ensures .1, ap isAccepted (sym (k .tensors)))))
 
@@ -78,25 +84,18 @@ returns-2 c =
 returns-3 : tie.Need-returns-3
 unfolding seen
 returns-3 c =
-    let r = ap asPassed (sym (c .before .why3 .given .1)) ∙ c .before .before .before .pass-tensors .ensures in
-    let d = c .before .before .before .before .before in
-    rw (no-tensors _ _ _ _ (started (d .before .before .before .before .before .before)) (aligned d) r) (record { answer = refl; entryRows = refl; tensorRows = refl })
+    let e = c .before .before .before in
+    let r = sym (c .before .why3 .given .1) ∙ tells e in
+    let d = e .before .before .before .before in
+    rw (no-header _ _ _ _ (started (d .before .before .before .before .before .before)) (aligned d) r) (record { answer = refl; entryRows = refl; tensorRows = refl })
 
 returns-4 : tie.Need-returns-4
 unfolding seen
 returns-4 c =
-    let r = sym (c .before .why4 .given .1) ∙ c .before .before .before .header-if-it-fits .ensures in
-    let e = c .before .before .before .before .before in
-    let d = e .before .before .before .before in
-    rw (no-data _ _ _ _ (started (d .before .before .before .before .before .before)) (aligned d) (ended e) r) (record { answer = refl; entryRows = refl; tensorRows = refl })
-
-returns-5 : tie.Need-returns-5
-unfolding seen
-returns-5 c =
     let f = c .before .before in
     let t = c .before .before .before .before .before .before .before in
     let k = known t in
-    let d = t .before .before .before .before .before .before .before .before in
+    let d = t .before .before .before .before .before .before in
     let z = d .before .before .before .before .before .before .before .before .before .before in
     rw (k .all) (record {
       answer = refl;
@@ -115,9 +114,7 @@ read-spec =
     (λ c κs. search needs)
     (λ c. search needs)
     (λ c. search needs)
-    (λ c κs. search needs)
-    (λ c. search needs)
-    (λ c. search needs)
+    pass-tensors-requires
     (λ c κs. search needs)
     (λ c. search needs)
     (λ c. search needs)
@@ -126,7 +123,6 @@ read-spec =
     returns
     returns-2
     returns-3
-    returns-4
     (λ c. search needs)
     (λ c. search needs)
-    returns-5)
+    returns-4)
