@@ -53,7 +53,7 @@ enum {
     SP_PAST_THE_FILE = 20,        /* a tensor's data ends after the file */
 
     /* Of the writer, beside 13 to 15 and 17. */
-    SP_VERSION_NOT_WRITTEN = 30,  /* not version 1, 2 or 3 */
+    SP_VERSION_NOT_WRITTEN = 30,  /* not version 1, 2 or 3, or SP_BIG_ENDIAN at 1 or 2 */
     SP_BAD_SHEET = 31,            /* the sheet is not well formed */
     SP_BAD_ALIGNMENT = 32,        /* an alignment of 0, or not a multiple of 8 */
     SP_ALIGNMENT_TOO_LARGE = 33,  /* it must be added to the header and is above 2^32 - 1 */
@@ -94,7 +94,7 @@ static inline const char *sp_reason(uint64_t number) {
     case SP_PARTIAL_BLOCK: return "the tensor's first length is not whole blocks of its kind";
     case SP_DATA_START_OVERFLOW: return "the data would start above 2^64 - 1";
     case SP_PAST_THE_FILE: return "the tensor's data ends after the end of the file";
-    case SP_VERSION_NOT_WRITTEN: return "the version to write is not 1, 2 or 3";
+    case SP_VERSION_NOT_WRITTEN: return "the version is not 1, 2 or 3, or has no such byte order";
     case SP_BAD_SHEET: return "the sheet is not well formed";
     case SP_BAD_ALIGNMENT: return "the alignment is 0 or not a multiple of 8";
     case SP_ALIGNMENT_TOO_LARGE: return "an alignment above 2^32 - 1 can't be added to the header";
@@ -180,11 +180,17 @@ SP_ASSERT_(sizeof(sp_tensor) == 8 * SP_TENSOR_WORDS, "a tensor is its words");
  * overlaps nothing else that is lent. */
 enum { SP_ANSWER_WORDS = 8 };
 
-/* Words of what a header says of itself. SP_ANSWER_BIG_ENDIAN is 1 for a big-endian file. */
+/* Words of what a header says of itself. */
 enum {
-    SP_ANSWER_VERSION, SP_ANSWER_BIG_ENDIAN, SP_ANSWER_ENTRIES, SP_ANSWER_TENSORS,
+    SP_ANSWER_VERSION, SP_ANSWER_BYTE_ORDER, SP_ANSWER_ENTRIES, SP_ANSWER_TENSORS,
     SP_ANSWER_ALIGNMENT, SP_ANSWER_HEADER_END, SP_ANSWER_DATA_START
 };
+
+/* The byte order of a header's numbers, in answer[SP_ANSWER_BYTE_ORDER] and for sp_write. A file
+ * begins with the bytes 47 47 55 46 in the first two, and with 46 55 47 47 in the third, whose magic
+ * is turned round as well. SP_BIG_ENDIAN is what other tools write, in version 3 alone; the other
+ * two go with versions 1 to 3. */
+enum { SP_LITTLE_ENDIAN = 0, SP_BIG_ENDIAN = 1, SP_BIG_ENDIAN_MAGIC = 2 };
 
 /* Words of a string that was found: its place in the prefix, and its length. */
 enum { SP_STRING_PLACE, SP_STRING_LENGTH };
@@ -271,17 +277,16 @@ uint64_t sp_check_ranges(const sp_tensor *tensors, size_t tensor_rows, uint64_t 
  * bytes), its dimension count (1 byte) and its lengths (8 bytes each). Metadata comes first, with
  * keys strictly ascending by bytes.
  *
- * version is 1, 2 or 3; big_endian is 0 for a little-endian header, and any other number for a
- * big-endian one. Where alignment is not 32 and the sheet has no general.alignment, that key is
- * added.
- * Each tensor's offset is the least multiple of alignment that is not below the end of the one
- * before.
+ * version is 1, 2 or 3. byte_order is SP_LITTLE_ENDIAN, SP_BIG_ENDIAN, which goes with version 3
+ * alone, or SP_BIG_ENDIAN_MAGIC; any other number means SP_BIG_ENDIAN. Where alignment is not 32 and
+ * the sheet has no general.alignment, that key is added. Each tensor's offset is the least multiple
+ * of alignment that is not below the end of the one before.
  *
  * Returns 0 with the header's end and the start of the data in answer; bytes of out after that
  * start are left as they are. Otherwise returns the refusal's number and leaves out as it is; the
  * place is that of a byte in the sheet for SP_BAD_SHEET, the number of a tensor for 13 to 15, 17,
  * 35 and 36, and else 0. */
-uint64_t sp_write(const uint8_t *sheet, size_t sheet_len, uint32_t version, uint32_t big_endian,
+uint64_t sp_write(const uint8_t *sheet, size_t sheet_len, uint32_t version, uint32_t byte_order,
                   uint64_t alignment, uint8_t *out, size_t out_len,
                   uint64_t answer[SP_ANSWER_WORDS]);
 

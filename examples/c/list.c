@@ -118,7 +118,8 @@ static uint64_t list(const uint8_t *prefix, size_t length, uint64_t file_length,
     if (!refusal) {
         uint64_t start = answer[SP_ANSWER_DATA_START];
         printf("version %" PRIu64 ", %s-endian, alignment %" PRIu64 ", data from %" PRIu64 " on\n",
-               answer[SP_ANSWER_VERSION], answer[SP_ANSWER_BIG_ENDIAN] ? "big" : "little",
+               answer[SP_ANSWER_VERSION],
+               answer[SP_ANSWER_BYTE_ORDER] == SP_LITTLE_ENDIAN ? "little" : "big",
                answer[SP_ANSWER_ALIGNMENT], start);
         for (uint64_t i = 0; i < entry_count; i++)
             print_entry(prefix, &entries[i]);

@@ -1,9 +1,9 @@
 //! One input through both readers, and every result compared.
 
-use crate::domain::{measure, number_in, Domain, Walk, OTHER_BLOCKS};
+use crate::domain::{measure, number_in, twin, Domain, Walk, OTHER_BLOCKS};
 use crate::inputs::WIDTHS;
 use crate::original::*;
-use crate::questions::Asked;
+use crate::questions::{in_words, Asked};
 use serde_json::Value;
 use std::collections::{BTreeMap, BTreeSet};
 use std::io::Cursor;
@@ -154,6 +154,10 @@ pub struct Agreed {
     alignments: BTreeSet<u64>,
     /// By refusal: how many have a misaligned offset, and are refused for this other reason.
     also_misaligned: BTreeMap<u64, u64>,
+    /// By refusal (0: accepted): how many keep the magic.
+    magic_kept: BTreeMap<u64, u64>,
+    /// The twins of those, each compared as any input is.
+    twins: Option<Box<Agreed>>,
     /// What the questions answered of the same inputs.
     pub asked: Asked,
 }
@@ -166,6 +170,9 @@ impl Agreed {
         let number = ours.answer.err().map_or(0, |refusal| number_of(refusal, bytes));
         assert!(number == 0 || ours.left_the_tables(), "rows: {bytes:?}");
         let Walk { domain, misaligned } = Walk::over(bytes, ROWS as u64);
+        if domain == Domain::MagicKept {
+            return self.on_magic_kept(&ours, number, bytes, cap);
+        }
         if domain == Domain::MoreRecords {
             // The crate has rows for every count, and never gives this refusal.
             assert_eq!(number, 6, "{bytes:?}");
@@ -191,6 +198,17 @@ impl Agreed {
         }
     }
 
+    /// The magic is kept: the original refuses the version. Here all is as in the twin but the byte
+    /// order, and the twin is compared with the original as any input is.
+    fn on_magic_kept(&mut self, kept: &Ours, number: u64, bytes: &[u8], cap: u64) {
+        assert_eq!(theirs(bytes, cap).err(), Some(4), "the original: {bytes:?}");
+        let twin = twin(bytes);
+        same_as_twin(kept, &ours(&twin, cap), bytes);
+        Asked::same_as_twin(bytes, &twin);
+        self.twins.get_or_insert_default().on(&twin, cap);
+        *self.magic_kept.entry(number).or_default() += 1;
+    }
+
     /// Inside the domain.
     fn on_same(&mut self, ours: &Ours, theirs: Option<Theirs>, bytes: &[u8]) {
         let number = ours.answer.err().map_or(0, |refusal| refusal.number());
@@ -213,6 +231,8 @@ impl Agreed {
     fn on_refusal(&mut self, ours: &Ours, class: u64, bytes: &[u8]) {
         let refusal = ours.answer.expect_err("accepted, and the original refuses");
         assert_eq!(refusal.number(), class, "refused at {}: {bytes:?}", refusal.place());
+        // The version has one place in all files, also behind a magic that is kept.
+        assert!(class != 4 || refusal.place() == Place::Prefix(4), "{bytes:?}");
         self.asked.on_refusal(bytes, refusal);
     }
 
@@ -302,11 +322,7 @@ impl Agreed {
     pub fn print(&self) {
         let all: u64 = self.by_number.values().sum();
         for (number, count) in &self.by_number {
-            println!(
-                "{:>9}  {}",
-                count,
-                if *number == 0 { "accepted".into() } else { format!("refused {number}") }
-            );
+            println!("{count:>9}  {}", said(*number));
         }
         println!(
             "{:>9}  kind 40, where the original panics and this reader refuses 11",
@@ -316,12 +332,61 @@ impl Agreed {
         for (what, count) in &self.outside {
             println!("{count:>9}  outside the domain, {what}");
         }
+        self.print_magic_kept();
         println!("{:>9}  of the 9 kinds of another block came up", self.other_blocks.len());
         println!("{:>9}  alignments came up with a misaligned offset", self.alignments.len());
         for (number, count) in &self.also_misaligned {
             println!("{count:>9}  of those refused {number} have a misaligned offset too");
         }
+        if let Some(twins) = &self.twins {
+            println!("The readers, on the twins of those, with the magic turned round too");
+            twins.print();
+        }
     }
+
+    /// Those that keep the magic, where there are any.
+    fn print_magic_kept(&self) {
+        for (number, count) in &self.magic_kept {
+            let what = format!("magic kept: here {}, the original refuses 4", said(*number));
+            println!("{count:>9}  outside the domain, {what}");
+        }
+        let all: u64 = self.magic_kept.values().sum();
+        if all > 0 {
+            println!("{all:>9}  with the magic kept, and all but the byte order is the twin's");
+        }
+    }
+}
+
+/// What a refusal's number says, where 0 is none.
+fn said(number: u64) -> String {
+    if number == 0 {
+        "accepted".into()
+    } else {
+        format!("refused {number}")
+    }
+}
+
+/// Panics where this project says another thing of an input that keeps the magic than of its twin.
+/// Only the byte order is another, and that tells the two apart.
+fn same_as_twin(kept: &Ours, twin: &Ours, bytes: &[u8]) {
+    assert_eq!(kept.answer, twin.answer.map(in_kept_order), "{bytes:?}");
+    assert_eq!(kept.measured, twin.measured.map(in_kept_order), "without rows: {bytes:?}");
+    assert!(kept.entries == twin.entries && kept.tensors == twin.tensors, "rows: {bytes:?}");
+    match (&kept.header, &twin.header) {
+        (Ok(own), Ok(other)) => {
+            assert_eq!(own.summary(), in_kept_order(other.summary()), "{bytes:?}");
+            let is_same = own.entries().map(in_words).eq(other.entries().map(in_words));
+            assert!(is_same && own.tensors().eq(other.tensors()), "the crate's: {bytes:?}");
+        }
+        (own, other) => assert_eq!(own.as_ref().err(), other.as_ref().err(), "{bytes:?}"),
+    }
+}
+
+/// What a twin says of itself, in the byte order of the input that keeps the magic.
+fn in_kept_order(mut summary: Summary) -> Summary {
+    assert_eq!(summary.byte_order, strutpebble::ByteOrder::BigMagic);
+    summary.byte_order = strutpebble::ByteOrder::Big;
+    summary
 }
 
 /// Panics where the original's model is not what this project's reader said.
@@ -329,7 +394,10 @@ fn same_header(ours: &Ours, model: &GGUFModel, big: bool, bytes: &[u8]) {
     let summary = ours.answer.unwrap_or_else(|refusal| panic!("{refusal}: {bytes:?}"));
     let Summary { version, entries, tensors, alignment, header_end, data_start, .. } = summary;
     assert_eq!(format!("v{version}"), model.get_version());
-    assert_eq!(summary.byte_order == strutpebble::ByteOrder::Big, big);
+    // A magic that is kept is outside the domain: inside, only one that is turned round is of a
+    // big-endian file.
+    let (little, turned) = (strutpebble::ByteOrder::Little, strutpebble::ByteOrder::BigMagic);
+    assert_eq!(summary.byte_order, if big { turned } else { little }, "{bytes:?}");
     assert_eq!((entries as u64, tensors as u64), (model.num_kv(), model.num_tensor()));
     assert_eq!((alignment, data_start), (model.alignment(), model.data_offset()), "{bytes:?}");
     assert!(header_end <= bytes.len() as u64 && header_end <= data_start, "{bytes:?}");

@@ -1,5 +1,10 @@
 //! Which inputs both readers must say the same of, seen from the bytes of the input alone.
 //!
+//! A big-endian file of version 3 may keep the magic `47 47 55 46` and turn only the rest round.
+//! This project reads it; the original takes the version's bytes for another number, and refuses
+//! it. So an input leaves the domain where it begins with that magic and `00 00 00 03`, whatever
+//! follows. Both read its twin, which has the magic turned round too.
+//!
 //! This project goes by ggml's own table of blocks, and refuses (17) a tensor whose first length is
 //! not whole blocks of its kind. The original has another block for nine of the kinds, and no such
 //! test. So an input leaves the domain where the reading comes to the end of the record of such a
@@ -18,6 +23,9 @@ use crate::inputs::WIDTHS;
 pub enum Domain {
     /// Both must say the same of it.
     Inside,
+    /// It begins as a big-endian file of version 3 that keeps the magic: here it is read as its
+    /// twin, and the original refuses its version (4).
+    MagicKept,
     /// It counts more records than there are rows. The original has no rows.
     MoreRecords,
     /// The reading comes to a tensor that is not whole blocks by this project's table, whatever its
@@ -54,6 +62,10 @@ impl Walk {
     /// Reads the input as both do, up to its end or the first refusal, and says what it came to.
     /// Where the two tables differ it goes by this project's.
     fn go(&mut self, bytes: &[u8], rows: u64) -> Option<()> {
+        if bytes.starts_with(MAGIC_KEPT) {
+            self.domain = Domain::MagicKept;
+            return None;
+        }
         let (mut rest, tensors, entries) = Rest::of(bytes)?;
         if tensors > rows || entries > rows {
             self.domain = Domain::MoreRecords;
@@ -97,6 +109,14 @@ impl Domain {
         }
         Some(())
     }
+}
+
+/// The first bytes of a big-endian file of version 3 that keeps the magic.
+const MAGIC_KEPT: &[u8] = b"GGUF\0\0\0\x03";
+
+/// The same file with the magic turned round too, of one that keeps it.
+pub fn twin(bytes: &[u8]) -> Vec<u8> {
+    [&b"FUGG"[..], &bytes[4..]].concat()
 }
 
 /// The numbers of a block of each kind, by this project's table; nothing where there is no such

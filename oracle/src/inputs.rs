@@ -66,6 +66,15 @@ impl Made {
         self.bytes.extend_from_slice(text);
     }
 
+    /// An input that comes from this header (itself, a prefix or a damaged copy) with the magic
+    /// kept. Nothing where the header is not big-endian of version 3, or the magic is what was
+    /// damaged.
+    pub fn keeping_magic(&self, input: &[u8]) -> Option<Vec<u8>> {
+        let (magic, rest) = input.split_at(input.len().min(4));
+        let can_keep = self.big && self.version == 3 && b"FUGG".starts_with(magic);
+        can_keep.then(|| [&b"GGUF"[..magic.len()], rest].concat())
+    }
+
     fn scalar(&mut self, kind: u64, random: &mut Random) {
         let width = WIDTHS[kind as usize];
         let sign = 1u64 << (8 * width - 1);
@@ -468,6 +477,20 @@ fn start(version: u64, big: bool, tensors: u64, entries: u64) -> Made {
     made.size(tensors);
     made.size(entries);
     made
+}
+
+/// The magic that is kept, with versions behind it that are big-endian, and with a 3 in each of the
+/// version's other bytes; alone, and with counts of 0.
+pub fn kept_fronts() -> Vec<Vec<u8>> {
+    let big = [0, 1, 2, 3, 4, 255].map(u32::to_be_bytes);
+    let threes = [[3, 0, 0, 0], [0, 3, 0, 0], [0, 0, 3, 0]];
+    let mut all = vec![];
+    for version in big.into_iter().chain(threes) {
+        let front = [&b"GGUF"[..], &version].concat();
+        all.push([&front[..], &[0; 16]].concat());
+        all.push(front);
+    }
+    all
 }
 
 /// A header of any version and byte order, with up to three tensors, and `least` entries or fewer

@@ -21,8 +21,8 @@ use original::{FILE_MAGIC_GGUF_LE, GGUF_VERSION_V1, GGUF_VERSION_V2, GGUF_VERSIO
 
 use compare::Agreed;
 use inputs::{
-    asked_header, damaged, every_answer, every_kind, every_offset, header, long_header,
-    many_tensors, Made, Random,
+    asked_header, damaged, every_answer, every_kind, every_offset, header, kept_fronts,
+    long_header, many_tensors, Made, Random,
 };
 use questions::Asked;
 
@@ -39,40 +39,60 @@ fn main() {
         [option, file, scratch] if option == "--sample" => sample::write(file, scratch),
         [headers, sheets, scratch] => {
             let headers = headers.parse().expect("how many headers");
-            let asked = compare_readers(headers);
-            compare_questions(headers, asked);
+            let Readers { made, kept } = compare_readers(headers);
+            let kept = compare_questions(headers, made.asked, kept);
+            compare_kept_magic(kept);
             compare_writers(sheets.parse().expect("how many sheets"), scratch);
         }
         _ => eprintln!("oracle: HEADERS SHEETS SCRATCH, or --sample FILE SCRATCH"),
     }
 }
 
+/// The readers on inputs as they are made, and on copies of these that keep the magic. The copies
+/// are counted apart, and take no random numbers: so the others stay as they are.
+#[derive(Default)]
+struct Readers {
+    made: Agreed,
+    kept: Agreed,
+}
+
+impl Readers {
+    /// Gives both an input that comes from a made header, and its copy that keeps the magic, where
+    /// there is one.
+    fn on(&mut self, made: &Made, input: &[u8], cap: u64) {
+        self.made.on(input, cap);
+        if let Some(copy) = made.keeping_magic(input) {
+            self.kept.on(&copy, cap);
+        }
+    }
+}
+
 /// Holds the readers against each other, and hands on what the questions answered of the same
-/// inputs.
-fn compare_readers(headers: u64) -> Asked {
+/// inputs, and the copies that keep the magic.
+fn compare_readers(headers: u64) -> Readers {
     let mut random = Random::new(0x9E37_79B9_7F4A_7C15);
-    let mut agreed = Agreed::default();
-    on_short_inputs(&mut agreed);
+    let mut readers = Readers::default();
+    on_short_inputs(&mut readers.made);
     for made in every_kind() {
-        agreed.on(&made.bytes, 3);
+        readers.on(&made, &made.bytes, 3);
     }
     for made in every_offset().into_iter().chain(many_tensors()) {
-        agreed.on(&made.bytes, 3);
+        readers.on(&made, &made.bytes, 3);
         // Without its last byte it is refused for that (1), whatever the offsets are.
-        agreed.on(&made.bytes[..made.bytes.len() - 1], 3);
+        readers.on(&made, &made.bytes[..made.bytes.len() - 1], 3);
     }
     for _ in 0..headers {
         let made = header(&mut random);
         let cap = [3, 0, 1, 100][random.below(4) as usize];
-        on_copies(&mut agreed, &made, cap, 1, &mut random);
+        on_copies(&mut readers, &made, cap, 1, &mut random);
     }
     for _ in 0..headers / 25 {
         let made = long_header(&mut random);
-        on_copies(&mut agreed, &made, 3, 7, &mut random);
+        on_copies(&mut readers, &made, 3, 7, &mut random);
     }
     println!("The readers");
-    agreed.print();
-    agreed.asked
+    readers.made.print();
+    readers
 }
 
 /// Every input of up to two bytes, and every magic that stands for something.
@@ -93,36 +113,47 @@ fn on_short_inputs(agreed: &mut Agreed) {
 }
 
 /// A header, its prefixes of every `step`th length, and damaged copies of it.
-fn on_copies(agreed: &mut Agreed, made: &Made, cap: u64, step: usize, random: &mut Random) {
-    agreed.on(&made.bytes, cap);
+fn on_copies(readers: &mut Readers, made: &Made, cap: u64, step: usize, random: &mut Random) {
+    readers.on(made, &made.bytes, cap);
     for end in (0..made.bytes.len()).step_by(step) {
-        agreed.on(&made.bytes[..end], cap);
+        readers.on(made, &made.bytes[..end], cap);
     }
     for bytes in damaged(made, random) {
-        agreed.on(&bytes, cap);
+        readers.on(made, &bytes, cap);
     }
 }
 
 /// Holds the questions against each other, also on headers that are made for them. Those have a
-/// seed of their own.
-fn compare_questions(headers: u64, asked: Asked) {
+/// seed of their own. Hands on the copies that keep the magic.
+fn compare_questions(headers: u64, asked: Asked, kept: Agreed) -> Agreed {
     let mut random = Random::new(0x00A5_4ED0_FA11_7E57);
-    let mut agreed = Agreed::default();
-    agreed.asked = asked;
+    let mut readers = Readers { made: Agreed::default(), kept };
+    readers.made.asked = asked;
     for made in every_answer() {
-        agreed.on(&made.bytes, 3);
+        readers.on(&made, &made.bytes, 3);
     }
     for _ in 0..headers {
         let made = asked_header(&mut random);
-        agreed.on(&made.bytes, 3);
+        readers.on(&made, &made.bytes, 3);
         for bytes in damaged(&made, &mut random) {
-            agreed.on(&bytes, 3);
+            readers.on(&made, &bytes, 3);
         }
     }
     println!("The readers, on headers that are made for the questions");
-    agreed.print();
+    readers.made.print();
     println!("The questions, on all of these inputs");
-    agreed.asked.print();
+    readers.made.asked.print();
+    readers.kept
+}
+
+/// Holds the readers against each other where the magic is kept: on the copies so far, and on the
+/// smallest of such inputs.
+fn compare_kept_magic(mut kept: Agreed) {
+    for front in kept_fronts() {
+        kept.on(&front, 3);
+    }
+    println!("The readers, on big-endian headers that keep the magic");
+    kept.print();
 }
 
 fn compare_writers(sheets: u64, scratch: &str) {

@@ -11,7 +11,7 @@ use crate::original::GGUFModel;
 use serde_json::Value;
 use std::collections::BTreeMap;
 use std::panic::{catch_unwind, AssertUnwindSafe};
-use strutpebble::{file_type, find, find_string, model_family, read, Refusal, StringError};
+use strutpebble::{file_type, find, find_string, model_family, read, Entry, Refusal, StringError};
 
 /// The names that the original gives to the types of files.
 const NAMES: [&str; 25] = [
@@ -64,6 +64,17 @@ pub struct Asked {
     refused_here: u64,
 }
 
+/// Keys to look up: those that mean something, and others that the inputs have.
+const KEYS: [&str; 6] =
+    ["general.alignment", "general.architecture", "general.file_type", "tokenizer.x", "a", ""];
+
+/// An entry in words, with all items of its array: so a float that is not a number equals itself.
+pub fn in_words(entry: Entry<'_>) -> String {
+    let array = entry.value().as_array();
+    let items: Vec<_> = array.iter().flat_map(|array| array.iter_all()).collect();
+    format!("{entry:?} {items:?}")
+}
+
 fn one_more(counts: &mut BTreeMap<String, u64>, what: String) {
     *counts.entry(what).or_default() += 1;
 }
@@ -98,6 +109,26 @@ impl Asked {
     fn refuse(bytes: &[u8], refusal: Refusal) {
         assert_eq!(model_family(bytes), Err(StringError::Refused(refusal)), "{bytes:?}");
         assert_eq!(file_type(bytes), Err(refusal), "{bytes:?}");
+    }
+
+    /// Panics where a question or a lookup says another thing of an input that keeps the magic than
+    /// of its twin. The original has a model of the twin alone.
+    pub fn same_as_twin(bytes: &[u8], twin: &[u8]) {
+        assert_eq!(model_family(bytes), model_family(twin), "{bytes:?}");
+        assert_eq!(file_type(bytes), file_type(twin), "{bytes:?}");
+        if read(bytes).is_err() {
+            // The refusal is the same for all keys.
+            return Asked::same_lookups(bytes, twin, "");
+        }
+        KEYS.iter().for_each(|key| Asked::same_lookups(bytes, twin, key));
+        Asked::of_rows(bytes);
+    }
+
+    /// Panics where a lookup of a key says another thing of an input than of its twin.
+    fn same_lookups(bytes: &[u8], twin: &[u8], key: &str) {
+        assert_eq!(find_string(bytes, key), find_string(twin, key), "{key}: {bytes:?}");
+        let found = |prefix| find(prefix, key).map(|entry| entry.map(in_words));
+        assert_eq!(found(bytes), found(twin), "{key}: {bytes:?}");
     }
 
     fn family(&mut self, bytes: &[u8], model: &GGUFModel) {

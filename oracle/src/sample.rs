@@ -70,7 +70,8 @@ impl Stored {
     }
 
     /// All that the original says of a header. It keeps its byte order to itself: that is its
-    /// magic's.
+    /// magic's, and so the word is 0 or 1. A big-endian file that keeps the magic is outside the
+    /// domain.
     fn model(&mut self, model: &GGUFModel, big: bool) {
         self.word(0);
         self.word(model.get_version()[1..].parse().expect("a version's number"));

@@ -43,10 +43,10 @@ static void an_entry_is_a_struct(void) {
     uint8_t file[128];
     uint64_t answer[SP_ANSWER_WORDS];
     sp_entry entries[1], found;
-    CHECK(sp_write(empty_sheet, 1, 3, 1, 64, file, sizeof file, answer) == 0);
+    CHECK(sp_write(empty_sheet, 1, 3, SP_BIG_ENDIAN, 64, file, sizeof file, answer) == 0);
     CHECK(sp_read(file, answer[SP_WRITTEN_END], SP_ALL_VERSIONS, SP_ALL_KINDS, SP_DEFAULT_CAP,
                   entries, 1, NULL, 0, answer) == 0);
-    CHECK(answer[SP_ANSWER_BIG_ENDIAN] == 1 && answer[SP_ANSWER_ALIGNMENT] == 64);
+    CHECK(answer[SP_ANSWER_BYTE_ORDER] == SP_BIG_ENDIAN && answer[SP_ANSWER_ALIGNMENT] == 64);
     CHECK(entries[0].type == SP_TYPE_U32 && entries[0].value == 64);
     CHECK(entries[0].key_length == 17);
     CHECK(memcmp(file + entries[0].key_place, "general.alignment", 17) == 0);
@@ -216,6 +216,69 @@ static void more_bytes_change_nothing(void) {
     }
 }
 
+/* The header of an empty sheet in each byte order, byte by byte; it ends at 24, and at 16 in
+ * version 1. What sp_read says of its byte order, sp_write takes. */
+static void byte_orders(void) {
+    static const struct {
+        uint32_t version, order;
+        uint8_t front[8];
+    } forms[] = {
+        {1, SP_LITTLE_ENDIAN, {0x47, 0x47, 0x55, 0x46, 1, 0, 0, 0}},
+        {2, SP_LITTLE_ENDIAN, {0x47, 0x47, 0x55, 0x46, 2, 0, 0, 0}},
+        {3, SP_LITTLE_ENDIAN, {0x47, 0x47, 0x55, 0x46, 3, 0, 0, 0}},
+        {3, SP_BIG_ENDIAN, {0x47, 0x47, 0x55, 0x46, 0, 0, 0, 3}},
+        {1, SP_BIG_ENDIAN_MAGIC, {0x46, 0x55, 0x47, 0x47, 0, 0, 0, 1}},
+        {2, SP_BIG_ENDIAN_MAGIC, {0x46, 0x55, 0x47, 0x47, 0, 0, 0, 2}},
+        {3, SP_BIG_ENDIAN_MAGIC, {0x46, 0x55, 0x47, 0x47, 0, 0, 0, 3}},
+    };
+    static const uint8_t zeros[24];
+    uint64_t answer[SP_ANSWER_WORDS];
+    uint8_t file[33];
+    for (size_t i = 0; i < sizeof forms / sizeof *forms; i++) {
+        uint64_t end = forms[i].version == 1 ? 16 : 24;
+        memset(file, 7, sizeof file);
+        CHECK(sp_write(empty_sheet, 1, forms[i].version, forms[i].order, 32, file, sizeof file,
+                       answer) == 0);
+        CHECK(answer[SP_WRITTEN_END] == end && answer[SP_WRITTEN_DATA_START] == 32);
+        CHECK(memcmp(file, forms[i].front, 8) == 0);
+        CHECK(memcmp(file + 8, zeros, 24) == 0 && file[32] == 7);
+        CHECK(sp_measure(file, end, 3, 39, answer) == 0);
+        CHECK(answer[SP_ANSWER_VERSION] == forms[i].version);
+        CHECK(answer[SP_ANSWER_BYTE_ORDER] == forms[i].order);
+        CHECK(answer[SP_ANSWER_DATA_START] == 32);
+        CHECK(sp_measure(file, end, forms[i].version - 1, 39, answer) == SP_VERSION_ABOVE_CEILING);
+        CHECK(answer[SP_ANSWER_PLACE] == 4);
+    }
+}
+
+/* Behind the magic 47 47 55 46 there is no big-endian header but of version 3. */
+static void big_endian_is_version_3(void) {
+    static const uint8_t untouched[64] = {0};
+    uint64_t answer[SP_ANSWER_WORDS];
+    uint8_t file[64] = {0};
+    for (uint32_t version = 0; version <= 4; version++) {
+        uint64_t refusal = sp_write(empty_sheet, 1, version, SP_BIG_ENDIAN, 32, file, 64, answer);
+        CHECK(refusal == (version == 3 ? 0 : SP_VERSION_NOT_WRITTEN));
+        CHECK(version == 3 || (answer[0] == 0 && memcmp(file, untouched, 64) == 0));
+        memset(file, 0, sizeof file);
+    }
+    memcpy(file, "GGUF", 4);
+    for (unsigned version = 0; version <= 255; version++) {
+        file[7] = (uint8_t)version;
+        uint64_t refusal = sp_measure(file, 24, 3, 39, answer);
+        CHECK(refusal == (version == 3 ? 0 : SP_UNKNOWN_VERSION));
+        CHECK(version == 3 || answer[SP_ANSWER_PLACE] == 4);
+    }
+    /* Every other number asks for the same. */
+    uint8_t again[64] = {0};
+    file[7] = 3;
+    for (uint32_t order = 3; order != 0; order *= 2) {
+        CHECK(sp_write(empty_sheet, 1, 3, order, 32, again, 64, answer) == 0);
+        CHECK(memcmp(file, again, 64) == 0);
+        CHECK(sp_write(empty_sheet, 1, 2, order, 32, again, 64, answer) == SP_VERSION_NOT_WRITTEN);
+    }
+}
+
 /* Every number has words of its own, and what is no number has others. */
 static void reasons(void) {
     static const uint64_t numbers[] = {0,  1,  2,  3,   4,   5,  6,  7,  8,  9,  10, 11, 12,
@@ -249,6 +312,8 @@ int main(void) {
     a_partial_block_is_not_written();
     a_misaligned_offset_is_not_read();
     more_bytes_change_nothing();
+    byte_orders();
+    big_endian_is_version_3();
     reasons();
     versions_agree();
     return failed;

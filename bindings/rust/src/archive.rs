@@ -62,7 +62,7 @@ extern "C" {
         sheet: *const u8,
         sheet_len: usize,
         version: u32,
-        big: u32,
+        order: u32,
         alignment: u64,
         out: *mut u8,
         out_len: usize,
@@ -197,7 +197,8 @@ pub fn check_ranges(tensors: &[TensorRow], start: u64, length: u64) -> Answer {
     (number, words)
 }
 
-pub fn write(sheet: &[u8], version: u32, big: bool, alignment: u64, out: &mut [u8]) -> Answer {
+/// Writes in the byte order of a number, `ByteOrder::to_number`.
+pub fn write(sheet: &[u8], version: u32, order: u32, alignment: u64, out: &mut [u8]) -> Answer {
     let mut words = [0; 8];
     // SAFETY: each pointer goes with its own slice's length; the output is borrowed mutably, so
     // that it does not overlap the sheet, which is only read; the words are this function's own.
@@ -206,7 +207,7 @@ pub fn write(sheet: &[u8], version: u32, big: bool, alignment: u64, out: &mut [u
             sheet.as_ptr(),
             sheet.len(),
             version,
-            big.into(),
+            order,
             alignment,
             out.as_mut_ptr(),
             out.len(),
@@ -279,9 +280,32 @@ mod tests {
     #[test]
     fn words_of_the_writer() {
         let mut out = [7; 40];
-        assert_eq!(write(&[1], 3, false, 32, &mut out), answer(0, [24, 32]));
+        assert_eq!(write(&[1], 3, 0, 32, &mut out), answer(0, [24, 32]));
         assert_eq!(out[32..], [7; 8]);
-        assert_eq!(write(&[1, 0], 3, false, 32, &mut out), answer(31, [1]));
-        assert_eq!(write(&[1], 3, false, 32, &mut out[..31]), answer(38, []));
+        assert_eq!(write(&[1, 0], 3, 0, 32, &mut out), answer(31, [1]));
+        assert_eq!(write(&[1], 3, 0, 32, &mut out[..31]), answer(38, []));
+    }
+
+    #[test]
+    fn words_of_byte_orders() {
+        for (order, front) in
+            [(0, b"GGUF\x03\0\0\0"), (1, b"GGUF\0\0\0\x03"), (2, b"FUGG\0\0\0\x03")]
+        {
+            let mut out = [7; 32];
+            assert_eq!(write(&[1], 3, order, 32, &mut out), answer(0, [24, 32]));
+            assert_eq!(out[..8], *front);
+            // It is read as the number by which it was asked for.
+            let said = answer(0, [3, order.into(), 0, 0, 32, 24, 32]);
+            assert_eq!(measure(&out, 3, 39), said);
+            assert_eq!(read(&out, 3, 39, 3, &mut [], &mut []), said);
+        }
+        // Number 1 is written in version 3 alone.
+        let mut out = [7; 32];
+        for version in [1, 2] {
+            assert_eq!(write(&[1], version, 1, 32, &mut out), answer(30, []));
+            assert_eq!(out, [7; 32]);
+            let end = if version == 1 { 16 } else { 24 };
+            assert_eq!(write(&[1], version, 2, 32, &mut [7; 32]), answer(0, [end, 32]));
+        }
     }
 }

@@ -14,7 +14,7 @@ use core::ops::Range;
 pub struct Summary {
     /// 1, 2 or 3.
     pub version: u32,
-    /// The order of the bytes of all its numbers.
+    /// The order of the bytes of all its numbers, and whether the magic is turned round too.
     pub byte_order: ByteOrder,
     /// How many metadata entries there are.
     pub entries: usize,
@@ -33,7 +33,7 @@ impl Summary {
         let words = accepted(answer)?;
         Ok(Summary {
             version: words[0] as u32,
-            byte_order: if words[1] == 0 { ByteOrder::Little } else { ByteOrder::Big },
+            byte_order: ByteOrder::from_word(words[1]),
             entries: words[2] as usize,
             tensors: words[3] as usize,
             alignment: words[4],
@@ -169,7 +169,7 @@ impl<'a> Header<'a> {
         self.summary.version
     }
 
-    /// The order of the bytes of the file's numbers.
+    /// The order of the bytes of the file's numbers, and whether the magic is turned round too.
     pub fn byte_order(&self) -> ByteOrder {
         self.summary.byte_order
     }

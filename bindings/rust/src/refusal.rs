@@ -16,7 +16,8 @@ pub enum Reason {
     OlderFormat,
     /// 3: any other magic that is not GGUF's.
     NotGguf,
-    /// 4: the version is not 1, 2 or 3.
+    /// 4: the version is not 1, 2 or 3, or it is a big-endian 1 or 2 behind the magic
+    /// `47 47 55 46`, where only a 3 may be big-endian.
     UnknownVersion,
     /// 5: the version is above [`Options::highest_version`](crate::Options::highest_version).
     VersionAboveCeiling,
@@ -48,7 +49,8 @@ pub enum Reason {
     DataStartOverflow,
     /// 20: the data of a tensor ends after the end of the file.
     PastTheFile,
-    /// 30: the version to write is not 1, 2 or 3.
+    /// 30: the version to write is not 1, 2 or 3, or it is 1 or 2 and the byte order is
+    /// [`ByteOrder::Big`](crate::ByteOrder::Big), which is there in version 3 only.
     VersionNotWritten,
     /// 31: the sheet is not well formed.
     BadSheet,
@@ -92,7 +94,7 @@ const REASONS: [(Reason, u64, &str); 28] = [
     (Reason::PartialBlock, 17, "the tensor's first length is not whole blocks of its kind"),
     (Reason::DataStartOverflow, 18, "the data would start above 2^64 - 1"),
     (Reason::PastTheFile, 20, "the tensor's data ends after the end of the file"),
-    (Reason::VersionNotWritten, 30, "the version to write is not 1, 2 or 3"),
+    (Reason::VersionNotWritten, 30, "the version is not 1, 2 or 3, or has no such byte order"),
     (Reason::BadSheet, 31, "the sheet is not well formed"),
     (Reason::BadAlignment, 32, "the alignment is 0 or not a multiple of 8"),
     (Reason::AlignmentTooLarge, 33, "an alignment above 2^32 - 1 can't be added to the header"),

@@ -24,12 +24,18 @@ pub struct Written {
 /// use strutpebble::{ByteOrder, Kind, Sheet, WriteOptions};
 ///
 /// let sheet = Sheet::new().tensor("a", Kind::F32, &[5]);
-/// let options = WriteOptions::new().version(2).byte_order(ByteOrder::Big).alignment(64);
+/// let options = WriteOptions::new().version(3).byte_order(ByteOrder::Big).alignment(64);
 /// let file = options.to_vec(&sheet)?;
+/// assert!(file.starts_with(b"GGUF\0\0\0\x03"));
 ///
 /// let header = strutpebble::read(&file)?;
-/// assert_eq!((header.version(), header.byte_order()), (2, ByteOrder::Big));
+/// assert_eq!((header.version(), header.byte_order()), (3, ByteOrder::Big));
 /// assert_eq!((header.alignment(), header.data_start()), (64, file.len() as u64));
+///
+/// // `Big` is there in version 3 only. `BigMagic`, the magic 46 55 47 47, goes with 1 and 2 too.
+/// assert!(options.version(2).to_vec(&sheet).is_err());
+/// let file = options.version(2).byte_order(ByteOrder::BigMagic).to_vec(&sheet)?;
+/// assert!(file.starts_with(b"FUGG\0\0\0\x02"));
 /// # Ok::<(), Box<dyn std::error::Error>>(())
 /// ```
 #[derive(Clone, Copy, Debug, PartialEq, Eq, Hash)]
@@ -45,13 +51,16 @@ impl WriteOptions {
         WriteOptions { version: 3, byte_order: ByteOrder::Little, alignment: 32 }
     }
 
-    /// Writes this version: 1, 2 or 3.
+    /// Writes this version: 1, 2 or 3, and 3 alone with [`ByteOrder::Big`]. Any other is refused
+    /// (30).
     pub const fn version(mut self, version: u32) -> WriteOptions {
         self.version = version;
         self
     }
 
-    /// Writes numbers in this byte order.
+    /// Writes numbers in this byte order, and the magic that goes with it. [`ByteOrder::Big`] goes
+    /// with version 3 alone, and is refused (30) with any other; [`ByteOrder::BigMagic`], with the
+    /// magic `46 55 47 47`, goes with versions 1, 2 and 3.
     pub const fn byte_order(mut self, byte_order: ByteOrder) -> WriteOptions {
         self.byte_order = byte_order;
         self
@@ -126,8 +135,7 @@ pub fn write_header(
     alignment: u64,
     out: &mut [u8],
 ) -> Result<Written, Refusal> {
-    let big_endian = byte_order == ByteOrder::Big;
-    match archive::write(sheet, version, big_endian, alignment, out) {
+    match archive::write(sheet, version, byte_order.to_number(), alignment, out) {
         (0, words) => Ok(Written { header_end: words[0], data_start: words[1] }),
         (number, words) => Err(Refusal::of_writer(number, words[0])),
     }

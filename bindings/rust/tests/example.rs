@@ -6,6 +6,7 @@ mod made;
 use made::{a_and_b, made};
 use std::path::{Path, PathBuf};
 use std::process::{Command, Output};
+use strutpebble::ByteOrder::Little;
 
 /// The top of the project, which has its C header in `include`: beside this folder in a release,
 /// and one further up in the repository.
@@ -44,7 +45,7 @@ fn asked(name: &str, file: &[u8], words: &[&str]) -> (i32, String, String) {
 
 #[test]
 fn a_tensor_by_number_and_by_name() {
-    let file = a_and_b(3, false);
+    let file = a_and_b(3, Little);
     assert_eq!(asked("number", &file, &["1"]), (0, "128 134\n".into(), "".into()));
     assert_eq!(asked("name", &file, &["a"]), (0, "96 116\n".into(), "".into()));
     assert_eq!(asked("equals", &file, &["=b"]), (0, "128 134\n".into(), "".into()));
@@ -52,14 +53,14 @@ fn a_tensor_by_number_and_by_name() {
 
 #[test]
 fn no_such_tensor() {
-    let (status, out, message) = asked("none", &a_and_b(3, false), &["2"]);
+    let (status, out, message) = asked("none", &a_and_b(3, Little), &["2"]);
     assert_eq!((status, out.as_str()), (1, ""));
     assert!(message.ends_with("the header has no such tensor\n"), "{message}");
 }
 
 #[test]
 fn more_bytes_are_wanted() {
-    let mut file = made(3, false, 1, 1);
+    let mut file = made(3, Little, 1, 1);
     file.key("k", 8).text(vec![b'x'; 70000]).tensor("t", &[8], 0, 0);
     let (status, out, message) = asked("short", &file.bytes, &["0"]);
     assert_eq!((status, out.as_str()), (1, ""));
@@ -114,7 +115,7 @@ fn c_example() -> PathBuf {
 /// 14 + 40 + 9000 * 9 = 81157 bytes, and the tensors 33 and 41. So the header ends at 81231, the
 /// data starts at 81248, and the second tensor, at 32, has 6 bytes.
 fn long_file() -> Vec<u8> {
-    let mut file = made(3, false, 2, 5);
+    let mut file = made(3, Little, 2, 5);
     file.key("general.architecture", 8).text("llama");
     file.key("i", 5).number(4, 0xffff_fff9);
     file.key("f", 6).number(4, 0x3fc0_0000);

@@ -3,10 +3,9 @@
 
 mod made;
 
-use made::{a_and_b, made, BLOCKS, NO_BYTES};
-use strutpebble::{
-    measure, read, ByteOrder, Header, Kind, Options, Place, RangeError, Reason, Summary,
-};
+use made::{a_and_b, made, BLOCKS, DIALECTS, NO_BYTES};
+use strutpebble::ByteOrder::{Big, BigMagic, Little};
+use strutpebble::{measure, read, Header, Kind, Options, Place, RangeError, Reason, Summary};
 
 /// The tensors a and b in version 3, byte by byte.
 #[rustfmt::skip]
@@ -36,11 +35,31 @@ fn an_empty_header() {
 }
 
 #[test]
+fn an_empty_big_endian_header() {
+    let front: [u8; 8] = [0x47, 0x47, 0x55, 0x46, 0, 0, 0, 3];
+    let file = [&front[..], &[0; 16]].concat();
+    assert_eq!(made(3, Big, 0, 0).bytes, file);
+    let header = read(&file).unwrap();
+    let said = Summary {
+        version: 3,
+        byte_order: Big,
+        entries: 0,
+        tensors: 0,
+        alignment: 32,
+        header_end: 24,
+        data_start: 32,
+    };
+    assert_eq!((header.summary(), measure(&file)), (said, Ok(said)));
+    assert_eq!((header.entries().len(), header.tensors().len()), (0, 0));
+    assert_eq!(header.check_ranges(0), Ok(()));
+}
+
+#[test]
 fn a_and_b_in_version_3() {
     let header = read(&A_AND_B).unwrap();
     let said = Summary {
         version: 3,
-        byte_order: ByteOrder::Little,
+        byte_order: Little,
         entries: 0,
         tensors: 2,
         alignment: 32,
@@ -67,27 +86,60 @@ fn a_and_b_in_version_3() {
 
 #[test]
 fn a_and_b_in_other_versions_and_orders() {
-    for (version, big, end) in [
-        (1, false, 74),
-        (2, false, 90),
-        (3, false, 90),
-        (1, true, 74),
-        (2, true, 90),
-        (3, true, 90),
-    ] {
-        let bytes = a_and_b(version, big);
+    for (version, order) in DIALECTS {
+        let end = if version == 1 { 74 } else { 90 };
+        let bytes = a_and_b(version, order);
         let header = read(&bytes).unwrap();
         assert_eq!(
             (header.version(), header.header_end(), header.data_start()),
             (version, end, 96)
         );
-        assert_eq!(header.byte_order(), if big { ByteOrder::Big } else { ByteOrder::Little });
+        assert_eq!(header.byte_order(), order);
         let sizes: Vec<_> =
             header.tensors().map(|tensor| (tensor.offset(), tensor.size())).collect();
         assert_eq!(sizes, [(0, 20), (32, 6)]);
     }
-    assert_eq!(a_and_b(3, false), A_AND_B);
-    assert_eq!(a_and_b(3, true)[..8], [0x46, 0x55, 0x47, 0x47, 0, 0, 0, 3]);
+    assert_eq!(a_and_b(3, Little), A_AND_B);
+    assert_eq!(a_and_b(3, Big)[..8], [0x47, 0x47, 0x55, 0x46, 0, 0, 0, 3]);
+    assert_eq!(a_and_b(3, BigMagic)[..8], [0x46, 0x55, 0x47, 0x47, 0, 0, 0, 3]);
+}
+
+#[test]
+fn a_and_b_big_endian() {
+    let file = a_and_b(3, Big);
+    let (header, little) = (read(&file).unwrap(), read(&A_AND_B).unwrap());
+    // All but the byte order is as in the little-endian file.
+    assert_eq!(header.summary(), Summary { byte_order: Big, ..little.summary() });
+    assert_eq!(measure(&file), Ok(header.summary()));
+    assert!(header.tensors().eq(little.tensors()));
+    assert_eq!((header.range_of(0), header.range_of_name("b")), (Ok(96..116), Ok(128..134)));
+    assert_eq!(header.check_ranges(134), Ok(()));
+    assert_eq!(first_outside(&header, 133), Place::Tensor(1));
+}
+
+#[test]
+fn the_magic_turned_round_too() {
+    let mut file = made(3, Big, 2, 5);
+    file.key("general.alignment", 4).number(4, 64);
+    file.key("minus", 3).number(2, 0xfffe);
+    file.key("text", 8).text("strut");
+    file.array("halves", 2, 3).number(2, 1).number(2, 256).number(2, 65535);
+    file.array("tokenizer.tokens", 8, 4).text("a").text("").text("bc").text("d");
+    file.tensor("a", &[5], 0, 0).tensor("b", &[3, 2], 1, 64);
+    let plain = file.bytes;
+    let turned = [&b"FUGG"[..], &plain[4..]].concat();
+    let (header, other) = (read(&plain).unwrap(), read(&turned).unwrap());
+    assert_eq!((header.byte_order(), header.alignment()), (Big, 64));
+    // All but the byte order is the same.
+    assert_eq!(other.summary(), Summary { byte_order: BigMagic, ..header.summary() });
+    assert!(other.entries().eq(header.entries()));
+    assert!(other.tensors().eq(header.tensors()));
+    let rows = |file: &[u8]| {
+        let (mut entries, mut tensors) = ([[9; 7]; 5], [[9; 10]; 2]);
+        Options::new().read_rows(file, &mut entries, &mut tensors).unwrap();
+        (entries, tensors)
+    };
+    assert_eq!(rows(&plain), rows(&turned));
 }
 
 #[test]
@@ -105,7 +157,7 @@ fn ranges_by_number_and_by_name() {
 
 #[test]
 fn of_equal_names_the_first() {
-    let file = made(3, false, 3, 0)
+    let file = made(3, Little, 3, 0)
         .tensor("x", &[8], 0, 0)
         .tensor("y", &[8], 0, 32)
         .tensor("y", &[8], 0, 64)
@@ -136,7 +188,7 @@ fn the_range_check() {
 #[test]
 fn a_range_that_no_file_has() {
     // The data starts at 96: both tensors would start above 2^64 - 1.
-    let file = made(3, false, 2, 0)
+    let file = made(3, Little, 2, 0)
         .tensor("a", &[], 0, u64::MAX - 63)
         .tensor("b", &[], 0, u64::MAX - 95)
         .bytes
@@ -152,7 +204,7 @@ fn a_range_that_no_file_has() {
 #[test]
 fn the_last_byte_that_a_file_can_have() {
     // A tensor of 31 bytes: 64 + offset + 31 = 2^64 - 1.
-    let mut file = made(3, false, 1, 0).tensor("a", &[31], 24, u64::MAX - 95).bytes.clone();
+    let mut file = made(3, Little, 1, 0).tensor("a", &[31], 24, u64::MAX - 95).bytes.clone();
     let header = read(&file).unwrap();
     assert_eq!((header.header_end(), header.data_start()), (57, 64));
     assert_eq!(header.range_of(0), Ok(u64::MAX - 31..u64::MAX));
@@ -168,7 +220,7 @@ fn the_last_byte_that_a_file_can_have() {
 #[test]
 fn a_cut_file_of_bf16() {
     // 256 numbers of 2 bytes, from 64 on.
-    let file = made(3, false, 1, 0).tensor("t", &[256], 30, 0).bytes.clone();
+    let file = made(3, Little, 1, 0).tensor("t", &[256], 30, 0).bytes.clone();
     let header = read(&file).unwrap();
     assert_eq!((header.tensor(0).unwrap().kind(), header.range_of(0)), (Kind::BF16, Ok(64..576)));
     assert_eq!(header.check_ranges(576), Ok(()));
@@ -179,7 +231,7 @@ fn a_cut_file_of_bf16() {
 
 /// The size of the tensor of a header that has only that one.
 fn size_of(kind: u64, lengths: &[u64]) -> u64 {
-    let file = made(3, false, 1, 0).tensor("t", lengths, kind, 0).bytes.clone();
+    let file = made(3, Little, 1, 0).tensor("t", lengths, kind, 0).bytes.clone();
     match read(&file) {
         Ok(header) => header.tensor(0).unwrap().size(),
         Err(refusal) => panic!("kind {kind}, lengths {lengths:?}: {refusal}"),
@@ -238,15 +290,19 @@ fn bytes_that_follow_change_nothing() {
 fn a_header_that_is_cut_off() {
     // Where each field starts.
     let fields = [0, 4, 8, 16, 24, 32, 33, 37, 45, 49, 57, 65, 66, 70, 78, 82, 90];
-    for pair in fields.windows(2) {
-        for end in pair[0]..pair[1] {
-            let refusal = read(&A_AND_B[..end]).unwrap_err();
-            assert_eq!(
-                (refusal.reason(), refusal.place()),
-                (Reason::CutOff, Place::Prefix(pair[0] as u64)),
-                "{end} bytes"
-            );
-            assert!(refusal.wants_more());
+    for order in [Little, Big, BigMagic] {
+        let file = a_and_b(3, order);
+        assert_eq!(file.len(), 90);
+        for pair in fields.windows(2) {
+            for end in pair[0]..pair[1] {
+                let refusal = read(&file[..end]).unwrap_err();
+                assert_eq!(
+                    (refusal.reason(), refusal.place()),
+                    (Reason::CutOff, Place::Prefix(pair[0] as u64)),
+                    "{order:?}, {end} bytes"
+                );
+                assert!(refusal.wants_more());
+            }
         }
     }
 }
@@ -261,7 +317,7 @@ fn alignments() {
         (&[0], 32, 64),
         (&[1 << 20], 1 << 20, 1 << 20),
     ] {
-        let mut file = made(3, false, 0, values.len() as u64);
+        let mut file = made(3, Little, 0, values.len() as u64);
         for value in values {
             file.key("general.alignment", 4).number(4, *value);
         }
@@ -273,7 +329,7 @@ fn alignments() {
 #[test]
 fn rows_of_the_callers() {
     let file =
-        made(3, false, 1, 1).key("k", 4).number(4, 7).tensor("t", &[2, 3], 0, 0).bytes.clone();
+        made(3, Little, 1, 1).key("k", 4).number(4, 7).tensor("t", &[2, 3], 0, 0).bytes.clone();
     let mut entries = [[9; 7]; 2];
     let mut tensors = [[9; 10]; 2];
     let summary = Options::new().read_rows(&file, &mut entries, &mut tensors).unwrap();
@@ -288,7 +344,7 @@ fn rows_of_the_callers() {
 fn kinds_have_names_where_the_reader_knows_them() {
     let mut names = std::collections::BTreeSet::new();
     for number in (0..64).chain([u32::MAX]) {
-        let file = made(3, false, 1, 0).tensor("t", &[256], number.into(), 0).bytes.clone();
+        let file = made(3, Little, 1, 0).tensor("t", &[256], number.into(), 0).bytes.clone();
         let kind = Kind::from(number);
         match read(&file) {
             Ok(header) => assert_eq!(header.tensor(0).unwrap().kind(), kind),

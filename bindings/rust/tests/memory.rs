@@ -3,9 +3,10 @@
 
 mod made;
 
-use made::{made, shortest};
+use made::{made, shortest, DIALECTS};
 use std::alloc::{GlobalAlloc, Layout, System};
 use std::cell::Cell;
+use strutpebble::ByteOrder::{Big, BigMagic, Little};
 use strutpebble::{
     file_type, find, find_string, measure, model_family, read, Options, Reason, Value,
 };
@@ -59,9 +60,9 @@ fn the_count_counts() {
 
 #[test]
 fn rows_and_nothing_else() {
-    for version in 1..=3 {
+    for (version, order) in DIALECTS {
         for (tensors, entries) in [(0, 0), (1, 0), (0, 1), (40, 100)] {
-            let file = shortest(version, false, tensors, entries);
+            let file = shortest(version, order, tensors, entries);
             assert!(read(&file).is_ok());
             let rows = 80 * tensors as usize + 56 * entries as usize;
             assert_eq!(asked(|| read(&file)), rows);
@@ -76,17 +77,19 @@ fn rows_and_nothing_else() {
 fn the_header_is_not_measured_first() {
     // A header that is refused at its last tensor, the kind of which is 12 bytes before its end:
     // measured first, it would ask for no rows.
-    let mut file = shortest(3, false, 10, 10);
-    let kind = file.len() - 12;
-    file[kind] = 40;
-    assert_eq!(read(&file).unwrap_err().reason(), Reason::UnknownKind);
-    assert_eq!(asked(|| read(&file)), 10 * (56 + 80));
+    for order in [Little, Big, BigMagic] {
+        let mut file = shortest(3, order, 10, 10);
+        let kind = file.len() - 12;
+        file[kind + if order.is_big() { 3 } else { 0 }] = 40;
+        assert_eq!(read(&file).unwrap_err().reason(), Reason::UnknownKind);
+        assert_eq!(asked(|| read(&file)), 10 * (56 + 80));
+    }
 }
 
 #[test]
 fn rows_are_written_whole() {
-    for (version, big) in [(1, false), (2, true), (3, false), (3, true)] {
-        let mut file = made(version, big, 3, 5);
+    for (version, order) in DIALECTS {
+        let mut file = made(version, order, 3, 5);
         file.key("number", 4).number(4, 7);
         file.key("minus", 1).number(1, 0xff);
         file.key("text", 8).text("strut");
@@ -101,7 +104,7 @@ fn rows_are_written_whole() {
         assert!(words.ends_with(&format!("entries: {entries:?}, tensors: {tensors:?} }}")));
     }
     // More entries than the reader keeps the rows of while it tests.
-    let file = shortest(3, false, 100, 100);
+    let file = shortest(3, Little, 100, 100);
     let header = read(&file).unwrap();
     assert!(header.entries().all(|entry| entry.value() == Value::U8(5)));
     assert!(header.tensors().all(|tensor| tensor.shape() == [1; 4] && tensor.size() == 4));
@@ -109,10 +112,10 @@ fn rows_are_written_whole() {
 
 #[test]
 fn made_up_counts_cost_nothing() {
-    for version in 1..=3 {
+    for (version, order) in DIALECTS {
         let most = if version == 1 { u32::MAX.into() } else { u64::MAX };
         for (tensors, entries) in [(most, 0), (0, most), (most, most), (1 << 24, 1 << 24)] {
-            let mut file = made(version, false, tensors, entries);
+            let mut file = made(version, order, tensors, entries);
             file.bytes.resize(100_000, 0);
             assert!(read(&file.bytes).is_err());
             assert_eq!(asked(|| read(&file.bytes)), 0);
@@ -122,10 +125,10 @@ fn made_up_counts_cost_nothing() {
 
 #[test]
 fn one_record_too_many_costs_nothing() {
-    for version in 1..=3 {
+    for (version, order) in DIALECTS {
         for (tensors, entries) in [(10, 0), (0, 10), (10, 10)] {
             // The claim is of one record more than the bytes have: just above what they can hold.
-            let whole = shortest(version, false, tensors, entries);
+            let whole = shortest(version, order, tensors, entries);
             let cut = &whole[..whole.len() - 1];
             assert!(read(cut).unwrap_err().wants_more());
             assert_eq!(asked(|| read(cut)), 0);
@@ -135,7 +138,7 @@ fn one_record_too_many_costs_nothing() {
 
 #[test]
 fn questions_allocate_nothing() {
-    let mut file = made(3, false, 0, 3);
+    let mut file = made(3, Little, 0, 3);
     file.key("general.architecture", 8).text("llama");
     file.key("general.file_type", 4).number(4, 7);
     file.array("tokenizer.tokens", 8, 2).text("a").text("b");

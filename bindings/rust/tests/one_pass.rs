@@ -4,8 +4,10 @@
 
 mod made;
 
-use made::{a_and_b, made, shortest, Made};
-use strutpebble::{measure, read, EntryRow, Header, Options, Reason, Refusal, Summary, TensorRow};
+use made::{a_and_b, made, shortest, Made, DIALECTS};
+use strutpebble::{
+    measure, read, ByteOrder, EntryRow, Header, Options, Reason, Refusal, Summary, TensorRow,
+};
 
 /// A header's summary and its rows.
 type Rows = (Summary, Vec<EntryRow>, Vec<TensorRow>);
@@ -40,8 +42,8 @@ fn compare(options: Options, prefix: &[u8]) {
 }
 
 /// A header with an entry of every type, arrays, and tensors of 0 to 4 dimensions.
-fn rich(version: u32, big: bool) -> Made {
-    let mut file = made(version, big, 5, 8);
+fn rich(version: u32, order: ByteOrder) -> Made {
+    let mut file = made(version, order, 5, 8);
     file.key("general.alignment", 4).number(4, 64);
     file.key("", 0).number(1, 1);
     file.key("text", 8).text("strut");
@@ -59,13 +61,11 @@ fn rich(version: u32, big: bool) -> Made {
 /// Headers of all versions and byte orders, also of the shortest records.
 fn headers() -> Vec<Vec<u8>> {
     let mut all = vec![];
-    for version in 1..=3 {
-        for big in [false, true] {
-            all.push(made(version, big, 0, 0).bytes);
-            all.push(a_and_b(version, big));
-            all.push(rich(version, big).bytes);
-            all.push(shortest(version, big, 3, 70));
-        }
+    for (version, order) in DIALECTS {
+        all.push(made(version, order, 0, 0).bytes);
+        all.push(a_and_b(version, order));
+        all.push(rich(version, order).bytes);
+        all.push(shortest(version, order, 3, 70));
     }
     all
 }
@@ -113,15 +113,27 @@ fn each_byte_changed() {
 
 #[test]
 fn counts_of_every_size() {
-    for (version, width) in [(1, 4), (2, 8), (3, 8)] {
-        for big in [false, true] {
-            for bits in 0..8 * width {
-                for count in [(1u64 << bits) - 1, 1 << bits, u64::MAX >> (63 - bits)] {
-                    compare(Options::new(), &made(version, big, count, 0).bytes);
-                    compare(Options::new(), &made(version, big, 0, count).bytes);
-                    let mut file = made(version, big, count, count);
-                    file.key("", 0).number(1, 5).tensor("", &[], 0, 0);
-                    compare(Options::new(), &file.bytes);
+    for (version, order) in DIALECTS {
+        let width = if version == 1 { 4 } else { 8 };
+        for bits in 0..8 * width {
+            for count in [(1u64 << bits) - 1, 1 << bits, u64::MAX >> (63 - bits)] {
+                compare(Options::new(), &made(version, order, count, 0).bytes);
+                compare(Options::new(), &made(version, order, 0, count).bytes);
+                let mut file = made(version, order, count, count);
+                file.key("", 0).number(1, 5).tensor("", &[], 0, 0);
+                compare(Options::new(), &file.bytes);
+            }
+        }
+    }
+}
+
+#[test]
+fn the_front_of_another_form() {
+    for file in headers() {
+        for magic in [b"GGUF", b"FUGG"] {
+            for version in 0..=4u32 {
+                for version in [version.to_le_bytes(), version.to_be_bytes()] {
+                    compare(Options::new(), &[&magic[..], &version, &file[8..]].concat());
                 }
             }
         }

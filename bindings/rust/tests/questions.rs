@@ -3,7 +3,8 @@
 
 mod made;
 
-use made::{made, Made};
+use made::{made, Made, DIALECTS};
+use strutpebble::ByteOrder::Little;
 use strutpebble::{file_type, find, model_family, read, StringError};
 
 const FAMILY: &str = "general.architecture";
@@ -67,17 +68,13 @@ fn compare(file: &[u8]) -> (Option<Vec<u8>>, Option<u64>) {
     (family.map(<[u8]>::to_vec), header.file_type())
 }
 
-/// Every version and byte order.
-const DIALECTS: [(u32, bool); 6] =
-    [(1, false), (1, true), (2, false), (2, true), (3, false), (3, true)];
-
 #[test]
 fn every_type_and_boundary() {
     let mut seen = [false; 25];
-    for (version, big) in DIALECTS {
+    for (version, order) in DIALECTS {
         for value_type in 0..13 {
             for number in NUMBERS.into_iter().chain(0..=24) {
-                let mut file = made(version, big, 0, 2);
+                let mut file = made(version, order, 0, 2);
                 entry(&mut file, FILE_TYPE, value_type, number, "7");
                 entry(&mut file, FAMILY, value_type, number, "llama");
                 let (family, answer) = compare(&file.bytes);
@@ -95,10 +92,10 @@ fn every_type_and_boundary() {
 
 #[test]
 fn of_equal_keys_the_last() {
-    for (version, big) in DIALECTS {
+    for (version, order) in DIALECTS {
         for first in 0..13 {
             for last in 0..13 {
-                let mut file = made(version, big, 1, 5);
+                let mut file = made(version, order, 1, 5);
                 entry(&mut file, FILE_TYPE, first, 3, "3");
                 entry(&mut file, FAMILY, first, 3, "first");
                 entry(&mut file, "k", first, 1, "k");
@@ -117,14 +114,14 @@ fn of_equal_keys_the_last() {
 #[test]
 fn almost_the_key() {
     let keys = ["", "general", "general.architectur", "general.architecture2", "general.file_typE"];
-    let mut file = made(3, false, 0, 2 * keys.len() as u64);
+    let mut file = made(3, Little, 0, 2 * keys.len() as u64);
     for key in keys {
         entry(&mut file, key, 8, 0, "llama");
         entry(&mut file, key, 4, 7, "");
     }
     assert_eq!(compare(&file.bytes), (None, None));
-    assert_eq!(compare(&made(3, false, 0, 0).bytes), (None, None));
-    let mut empty = made(3, false, 0, 1);
+    assert_eq!(compare(&made(3, Little, 0, 0).bytes), (None, None));
+    let mut empty = made(3, Little, 0, 1);
     entry(&mut empty, FAMILY, 8, 0, "");
     assert_eq!(compare(&empty.bytes), (Some(vec![]), None));
 }

@@ -6,7 +6,10 @@
 
 mod made;
 
-use made::{a_and_b, a_and_b_at, made, number_and_byte, shortest, Made, BLOCKS, NO_BYTES};
+use made::{
+    a_and_b, a_and_b_at, made, number_and_byte, shortest, Made, BLOCKS, DIALECTS, NO_BYTES,
+};
+use strutpebble::ByteOrder::{Big, BigMagic, Little};
 use strutpebble::{
     file_type, find, find_string, measure, model_family, read, Options, Reason, StringError,
 };
@@ -27,14 +30,14 @@ fn cut_off_1() {
     assert_eq!(refused(b""), (1, 0));
     assert_eq!(refused(b"XYZ"), (1, 0));
     assert_eq!(refused(b"GGUF\x03\0\0"), (1, 4));
-    assert_eq!(refused(&made(3, false, 0, 1).bytes), (1, 24));
+    assert_eq!(refused(&made(3, Little, 0, 1).bytes), (1, 24));
     // A string of 2^30 bytes may be there, and is not in this prefix.
-    assert_eq!(refused(&made(3, false, 0, 1).size(1 << 30).bytes), (1, 32));
+    assert_eq!(refused(&made(3, Little, 0, 1).size(1 << 30).bytes), (1, 32));
     // An item that is missing is refused at its own start: items of two bytes from 49 on, the last
     // of three cut in half.
     assert_eq!(
         refused(
-            &made(3, false, 0, 1).array("k", 2, 3).number(2, 1).number(2, 2).number(1, 3).bytes
+            &made(3, Little, 0, 1).array("k", 2, 3).number(2, 1).number(2, 2).number(1, 3).bytes
         ),
         (1, 53)
     );
@@ -56,17 +59,53 @@ fn versions_4_and_5() {
     assert_eq!(refused(b"GGUF\x04\0\0\0"), (4, 4));
     // The bytes of version 3 in the other order.
     assert_eq!(refused(b"FUGG\x03\0\0\0"), (4, 4));
-    let file = a_and_b(3, false);
-    assert_eq!(number_and_byte(Options::new().highest_version(2).read(&file).unwrap_err()), (5, 4));
-    assert_eq!(number_and_byte(Options::new().highest_version(0).read(&file).unwrap_err()), (5, 4));
-    assert!(Options::new().highest_version(2).read(&a_and_b(2, false)).is_ok());
-    assert!(Options::new().highest_version(9).read(&file).is_ok());
+    for order in [Little, Big, BigMagic] {
+        let file = a_and_b(3, order);
+        for version in [0, 1, 2] {
+            let answer = Options::new().highest_version(version).read(&file);
+            assert_eq!(number_and_byte(answer.unwrap_err()), (5, 4), "{order:?}, {version}");
+        }
+        assert!(Options::new().highest_version(3).read(&file).is_ok());
+        assert!(Options::new().highest_version(9).read(&file).is_ok());
+    }
+    assert!(Options::new().highest_version(2).read(&a_and_b(2, Little)).is_ok());
+    assert!(Options::new().highest_version(2).read(&a_and_b(2, BigMagic)).is_ok());
+}
+
+#[test]
+fn big_endian_versions_4() {
+    // Behind this magic a 3 alone may be big-endian, whatever follows.
+    for front in [
+        b"GGUF\0\0\0\0",
+        b"GGUF\0\0\0\x01",
+        b"GGUF\0\0\0\x02",
+        b"GGUF\0\0\0\x04",
+        b"GGUF\x03\0\0\x03",
+        b"GGUF\0\x03\0\0",
+        b"GGUF\0\0\x03\0",
+    ] {
+        assert_eq!(refused(front), (4, 4));
+        let longer = [&front[..], &[0; 16]].concat();
+        assert_eq!(refused(&longer), (4, 4));
+        // No ceiling matters.
+        for version in [0, 2, 9] {
+            let answer = Options::new().highest_version(version).read(&longer);
+            assert_eq!(number_and_byte(answer.unwrap_err()), (4, 4));
+        }
+    }
+    for version in [1, 2] {
+        assert_eq!(refused(&a_and_b(version, Big)), (4, 4));
+        assert!(read(&a_and_b(version, BigMagic)).is_ok());
+    }
+    let refusal = read(b"GGUF\0\0\0\x02").unwrap_err();
+    assert_eq!(refusal.reason(), Reason::UnknownVersion);
+    assert_eq!(refusal.to_string(), "refused 4 at byte 4: the version is not 1, 2 or 3");
 }
 
 #[test]
 fn too_few_rows_6() {
     for (version, entries_at) in [(1, 12), (3, 16)] {
-        let file = made(version, false, 1, 1)
+        let file = made(version, Little, 1, 1)
             .key("k", 0)
             .number(1, 5)
             .tensor("t", &[], 0, 0)
@@ -93,7 +132,7 @@ fn a_refusal_leaves_the_rows() {
     // A good entry, and a tensor of a kind that there is not, or of a part of a block, or at an
     // offset that is not aligned.
     for (kind, offset, wanted) in [(40, 0, (11, 51)), (2, 0, (17, 38)), (0, 33, (16, 55))] {
-        let mut file = made(3, false, 1, 1);
+        let mut file = made(3, Little, 1, 1);
         file.key("k", 0).number(1, 5).tensor("t", &[], kind, offset);
         let mut entries = [[7; 7]; 3];
         let mut tensors = [[7; 10]; 3];
@@ -106,42 +145,43 @@ fn a_refusal_leaves_the_rows() {
 
 #[test]
 fn long_strings_7() {
-    assert_eq!(refused(&made(3, false, 0, 1).size((1 << 30) + 1).bytes), (7, 24));
-    assert_eq!(refused(&made(1, false, 0, 1).size((1 << 30) + 1).bytes), (7, 16));
-    assert_eq!(refused(&made(3, true, 0, 1).size(u64::MAX).bytes), (7, 24));
-    assert_eq!(refused(&made(3, false, 0, 1).key("k", 8).size(u64::MAX).bytes), (7, 37));
-    assert_eq!(refused(&made(3, false, 1, 0).size((1 << 30) + 1).bytes), (7, 24));
+    assert_eq!(refused(&made(3, Little, 0, 1).size((1 << 30) + 1).bytes), (7, 24));
+    assert_eq!(refused(&made(1, Little, 0, 1).size((1 << 30) + 1).bytes), (7, 16));
+    assert_eq!(refused(&made(3, Big, 0, 1).size(u64::MAX).bytes), (7, 24));
+    assert_eq!(refused(&made(3, BigMagic, 0, 1).size(u64::MAX).bytes), (7, 24));
+    assert_eq!(refused(&made(3, Little, 0, 1).key("k", 8).size(u64::MAX).bytes), (7, 37));
+    assert_eq!(refused(&made(3, Little, 1, 0).size((1 << 30) + 1).bytes), (7, 24));
 }
 
 #[test]
 fn types_8() {
-    assert_eq!(refused(&made(3, false, 0, 1).key("k", 13).bytes), (8, 33));
-    assert_eq!(refused(&made(3, false, 0, 1).array("k", 13, 0).bytes), (8, 37));
-    assert_eq!(refused(&made(3, false, 0, 1).key("k", 9).number(4, 13).bytes), (8, 37));
+    assert_eq!(refused(&made(3, Little, 0, 1).key("k", 13).bytes), (8, 33));
+    assert_eq!(refused(&made(3, Little, 0, 1).array("k", 13, 0).bytes), (8, 37));
+    assert_eq!(refused(&made(3, Little, 0, 1).key("k", 9).number(4, 13).bytes), (8, 37));
 }
 
 #[test]
 fn arrays_of_arrays_9() {
-    assert_eq!(refused(&made(3, false, 0, 1).array("k", 9, 1).bytes), (9, 37));
-    assert!(read(&made(3, false, 0, 1).array("k", 9, 0).bytes).is_ok());
+    assert_eq!(refused(&made(3, Little, 0, 1).array("k", 9, 1).bytes), (9, 37));
+    assert!(read(&made(3, Little, 0, 1).array("k", 9, 0).bytes).is_ok());
 }
 
 #[test]
 fn dimensions_10() {
-    assert_eq!(refused(&made(3, false, 1, 0).text("t").number(4, 5).bytes), (10, 33));
-    assert!(read(&made(3, false, 1, 0).tensor("t", &[1, 2, 3, 4], 0, 0).bytes).is_ok());
+    assert_eq!(refused(&made(3, Little, 1, 0).text("t").number(4, 5).bytes), (10, 33));
+    assert!(read(&made(3, Little, 1, 0).tensor("t", &[1, 2, 3, 4], 0, 0).bytes).is_ok());
 }
 
 #[test]
 fn kinds_11_and_12() {
     for kind in [4, 5, 40, 41, u32::MAX.into()] {
-        assert_eq!(refused(&made(3, false, 1, 0).tensor("t", &[1], kind, 0).bytes), (11, 45));
+        assert_eq!(refused(&made(3, Little, 1, 0).tensor("t", &[1], kind, 0).bytes), (11, 45));
     }
-    let file = made(3, false, 1, 0).tensor("t", &[32], 39, 0).bytes.clone();
+    let file = made(3, Little, 1, 0).tensor("t", &[32], 39, 0).bytes.clone();
     assert_eq!(number_and_byte(Options::new().highest_kind(38).read(&file).unwrap_err()), (12, 45));
     assert!(Options::new().highest_kind(39).read(&file).is_ok());
     // No ceiling makes a kind of 40.
-    let file = made(3, false, 1, 0).tensor("t", &[1], 40, 0).bytes.clone();
+    let file = made(3, Little, 1, 0).tensor("t", &[1], 40, 0).bytes.clone();
     assert_eq!(
         number_and_byte(Options::new().highest_kind(100).read(&file).unwrap_err()),
         (11, 45)
@@ -151,28 +191,28 @@ fn kinds_11_and_12() {
 #[test]
 fn products_and_sizes_13_14_15() {
     assert_eq!(
-        refused(&made(3, false, 1, 0).tensor("t", &[1 << 32, 1 << 32, 0], 0, 0).bytes),
+        refused(&made(3, Little, 1, 0).tensor("t", &[1 << 32, 1 << 32, 0], 0, 0).bytes),
         (13, 24)
     );
-    assert_eq!(refused(&made(3, false, 1, 0).tensor("t", &[1 << 62], 0, 0).bytes), (14, 24));
+    assert_eq!(refused(&made(3, Little, 1, 0).tensor("t", &[1 << 62], 0, 0).bytes), (14, 24));
     // Kind 24 has one byte for each of its numbers: only the total is too great, at the second
     // tensor.
     let half = 1 << 63;
     assert_eq!(
         refused(
-            &made(3, false, 2, 0).tensor("s", &[half], 24, 0).tensor("t", &[half], 24, 0).bytes
+            &made(3, Little, 2, 0).tensor("s", &[half], 24, 0).tensor("t", &[half], 24, 0).bytes
         ),
         (15, 57)
     );
     assert!(read(
-        &made(3, false, 2, 0).tensor("s", &[half], 24, 0).tensor("t", &[half - 1], 24, 0).bytes
+        &made(3, Little, 2, 0).tensor("s", &[half], 24, 0).tensor("t", &[half - 1], 24, 0).bytes
     )
     .is_ok());
 }
 
 /// The refusal of a header whose one tensor has this kind and these lengths.
 fn refused_tensor(kind: u64, lengths: &[u64]) -> (u64, u64) {
-    refused(&made(3, false, 1, 0).tensor("t", lengths, kind, 0).bytes)
+    refused(&made(3, Little, 1, 0).tensor("t", lengths, kind, 0).bytes)
 }
 
 #[test]
@@ -187,12 +227,12 @@ fn partial_blocks_17() {
         // Without dimensions there is one number.
         assert_eq!(refused_tensor(kind, &[]), (17, 24), "kind {kind}");
     }
-    let refusal = read(&made(3, false, 1, 0).tensor("t", &[33], 2, 0).bytes).unwrap_err();
+    let refusal = read(&made(3, Little, 1, 0).tensor("t", &[33], 2, 0).bytes).unwrap_err();
     assert_eq!(refusal.reason(), Reason::PartialBlock);
     let words = "refused 17 at byte 24: the tensor's first length is not whole blocks of its kind";
     assert_eq!((refusal.to_string().as_str(), refusal.wants_more()), (words, false));
     // In version 1 the first record starts at 16. The second tensor starts 29 bytes on.
-    let mut file = made(1, true, 2, 0);
+    let mut file = made(1, BigMagic, 2, 0);
     file.tensor("s", &[64], 2, 0).tensor("t", &[65], 2, 64);
     assert_eq!(refused(&file.bytes), (17, 45));
 }
@@ -201,7 +241,7 @@ fn partial_blocks_17() {
 fn a_partial_block_beside_other_reasons() {
     // After 11 and 12.
     assert_eq!(refused_tensor(40, &[33]), (11, 45));
-    let file = made(3, false, 1, 0).tensor("t", &[33], 2, 0).bytes.clone();
+    let file = made(3, Little, 1, 0).tensor("t", &[33], 2, 0).bytes.clone();
     assert_eq!(number_and_byte(Options::new().highest_kind(1).read(&file).unwrap_err()), (12, 45));
     // Before 13, 14 and 15.
     assert_eq!(refused_tensor(2, &[33, 1 << 32, 1 << 32]), (17, 24));
@@ -209,7 +249,7 @@ fn a_partial_block_beside_other_reasons() {
     assert_eq!(refused_tensor(2, &[(1 << 63) + 1]), (17, 24));
     assert_eq!(refused_tensor(2, &[1 << 63]), (14, 24));
     for (length, wanted) in [(33, 17), (32, 15)] {
-        let mut file = made(3, false, 2, 0);
+        let mut file = made(3, Little, 2, 0);
         file.tensor("s", &[u64::MAX], 24, 0).tensor("t", &[length], 2, 0);
         assert_eq!(refused(&file.bytes), (wanted, 57));
     }
@@ -218,7 +258,7 @@ fn a_partial_block_beside_other_reasons() {
         assert_eq!(refused_tensor(kind, &[33, 1 << 32, 1 << 32]), (13, 24));
     }
     // The record has to be there, and the next one need not be.
-    let file = made(3, false, 2, 0).tensor("t", &[33], 2, 0).bytes.clone();
+    let file = made(3, Little, 2, 0).tensor("t", &[33], 2, 0).bytes.clone();
     assert_eq!(refused(&file[..56]), (1, 49));
     assert_eq!(refused(&file), (17, 24));
 }
@@ -226,26 +266,25 @@ fn a_partial_block_beside_other_reasons() {
 #[test]
 fn misaligned_offsets_16() {
     // In version 1 the first record starts at 16, and a record has 29 bytes.
-    for (version, offset_of_a, offset_of_b) in [(1, 37, 66), (2, 49, 82), (3, 49, 82)] {
-        for big in [false, true] {
-            for bad in [1, 8, 16, 31, 33, 48, (1 << 32) + 16, (1 << 56) - 1, u64::MAX] {
-                assert_eq!(refused(&a_and_b_at(version, big, 0, bad)), (16, offset_of_b));
-                assert_eq!(refused(&a_and_b_at(version, big, bad, 0)), (16, offset_of_a));
-                // The first of two decides.
-                assert_eq!(refused(&a_and_b_at(version, big, bad, bad)), (16, offset_of_a));
-            }
-            for good in [0, 32, 96, 1 << 56, u64::MAX - 31] {
-                assert!(read(&a_and_b_at(version, big, good, good)).is_ok(), "offset {good}");
-            }
+    for (version, order) in DIALECTS {
+        let (offset_of_a, offset_of_b) = if version == 1 { (37, 66) } else { (49, 82) };
+        for bad in [1, 8, 16, 31, 33, 48, (1 << 32) + 16, (1 << 56) - 1, u64::MAX] {
+            assert_eq!(refused(&a_and_b_at(version, order, 0, bad)), (16, offset_of_b));
+            assert_eq!(refused(&a_and_b_at(version, order, bad, 0)), (16, offset_of_a));
+            // The first of two decides.
+            assert_eq!(refused(&a_and_b_at(version, order, bad, bad)), (16, offset_of_a));
+        }
+        for good in [0, 32, 96, 1 << 56, u64::MAX - 31] {
+            assert!(read(&a_and_b_at(version, order, good, good)).is_ok(), "offset {good}");
         }
     }
-    let refusal = read(&a_and_b_at(3, false, 0, 33)).unwrap_err();
+    let refusal = read(&a_and_b_at(3, Little, 0, 33)).unwrap_err();
     assert_eq!(refusal.reason(), Reason::Misaligned);
     let words = "refused 16 at byte 82: the tensor's offset is not a multiple of the alignment";
     assert_eq!((refusal.to_string().as_str(), refusal.wants_more()), (words, false));
     // Tensors of size 0 are no exception.
     for (kind, length) in NO_BYTES.map(|kind| (kind, 33)).into_iter().chain([(0, 0), (2, 0)]) {
-        let mut file = made(3, false, 1, 0);
+        let mut file = made(3, Little, 1, 0);
         assert_eq!(refused(&file.tensor("t", &[length], kind, 33).bytes), (16, 49), "kind {kind}");
     }
 }
@@ -272,7 +311,7 @@ fn the_alignment_of_the_whole_header_decides() {
         (&[1 << 20], 1 << 19, 3 << 20),
     ] {
         for (offset, wanted) in [(bad, true), (good, false), (0, false)] {
-            let mut file = made(3, false, 1, values.len() as u64);
+            let mut file = made(3, Little, 1, values.len() as u64);
             for value in values {
                 file.key("general.alignment", 4).number(4, *value);
             }
@@ -284,7 +323,7 @@ fn the_alignment_of_the_whole_header_decides() {
     for (offset, wanted) in
         [(0, false), (8, true), (1 << 63, true), (greatest - 8, true), (greatest, false)]
     {
-        let mut file = made(3, false, 1, 1);
+        let mut file = made(3, Little, 1, 1);
         file.key("general.alignment", 10).number(8, greatest);
         assert_eq!(is_misaligned(file, offset), wanted, "offset {offset}");
     }
@@ -292,7 +331,7 @@ fn the_alignment_of_the_whole_header_decides() {
 
 /// The front of a header of two tensors, up to the end of the first, which is misaligned.
 fn misaligned_first() -> Made {
-    let mut file = made(3, false, 2, 0);
+    let mut file = made(3, Little, 2, 0);
     file.tensor("a", &[5], 0, 33);
     file
 }
@@ -312,8 +351,8 @@ fn a_misaligned_offset_after_all_other_reasons() {
         assert_eq!(refused(&misaligned_first().tensor("b", lengths, kind, 32).bytes), wanted);
     }
     // In one tensor too.
-    assert_eq!(refused(&made(3, false, 1, 0).tensor("t", &[1], 40, 33).bytes), (11, 45));
-    let file = a_and_b_at(3, false, 33, 32);
+    assert_eq!(refused(&made(3, Little, 1, 0).tensor("t", &[1], 40, 33).bytes), (11, 45));
+    let file = a_and_b_at(3, Little, 33, 32);
     assert_eq!(number_and_byte(Options::new().highest_kind(0).read(&file).unwrap_err()), (12, 78));
     let answer = Options::new().read_rows(&file, &mut [], &mut [[7; 10]]);
     assert_eq!(number_and_byte(answer.unwrap_err()), (6, 8));
@@ -328,10 +367,10 @@ fn a_misaligned_offset_after_all_other_reasons() {
 fn a_misaligned_offset_leaves_the_rows() {
     // Up to 64 entries are kept while the header is tested, and more are passed again.
     for count in [0, 1, 64, 65, 100] {
-        for (version, big) in [(1, true), (3, false)] {
-            let mut file = shortest(version, big, 3, count);
+        for (version, order) in [(1, BigMagic), (3, Little), (3, Big)] {
+            let mut file = shortest(version, order, 3, count);
             let offset = file.len() - 8;
-            file[offset + if big { 7 } else { 0 }] = 33;
+            file[offset + if order.is_big() { 7 } else { 0 }] = 33;
             let mut entries = vec![[7; 7]; 100];
             let mut tensors = [[7; 10]; 5];
             let refusal = Options::new().read_rows(&file, &mut entries, &mut tensors).unwrap_err();
@@ -345,19 +384,20 @@ fn a_misaligned_offset_leaves_the_rows() {
 fn counts_that_are_made_up() {
     // No table of 2^64 - 1 rows is asked for: the first record that is not there refuses.
     for (tensors, entries) in [(u64::MAX, 0), (0, u64::MAX), (u64::MAX, u64::MAX)] {
-        assert_eq!(refused(&made(3, false, tensors, entries).bytes), (1, 24));
+        assert_eq!(refused(&made(3, Little, tensors, entries).bytes), (1, 24));
     }
-    assert_eq!(refused(&made(1, true, u32::MAX.into(), u32::MAX.into()).bytes), (1, 16));
+    assert_eq!(refused(&made(3, Big, u64::MAX, u64::MAX).bytes), (1, 24));
+    assert_eq!(refused(&made(1, BigMagic, u32::MAX.into(), u32::MAX.into()).bytes), (1, 16));
     // A record that is there and is bad refuses as ever.
-    assert_eq!(refused(&made(3, false, 0, u64::MAX).key("k", 13).bytes), (8, 33));
-    assert_eq!(refused(&made(3, false, u64::MAX, 0).tensor("t", &[1], 40, 0).bytes), (11, 45));
+    assert_eq!(refused(&made(3, Little, 0, u64::MAX).key("k", 13).bytes), (8, 33));
+    assert_eq!(refused(&made(3, Little, u64::MAX, 0).tensor("t", &[1], 40, 0).bytes), (11, 45));
     // So does a count of items.
-    assert_eq!(refused(&made(3, false, 0, 1).array("k", 0, u64::MAX).number(1, 1).bytes), (1, 50));
+    assert_eq!(refused(&made(3, Little, 0, 1).array("k", 0, u64::MAX).number(1, 1).bytes), (1, 50));
 }
 
 #[test]
 fn errors_of_questions_name_their_source() {
-    let cut_off = read(&made(3, false, 0, 1).bytes).unwrap_err();
+    let cut_off = read(&made(3, Little, 0, 1).bytes).unwrap_err();
     let words = "refused 1 at byte 24: the header does not end inside these bytes: fetch more";
     assert_eq!((cut_off.to_string().as_str(), cut_off.wants_more()), (words, true));
     let error: Box<dyn std::error::Error> = Box::new(StringError::from(cut_off));

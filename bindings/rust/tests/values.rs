@@ -2,18 +2,15 @@
 
 mod made;
 
-use made::{made, number_and_byte, Made};
+use made::{made, number_and_byte, Made, DIALECTS};
+use strutpebble::ByteOrder::{self, Little};
 use strutpebble::{
     file_type, find, find_string, model_family, read, Options, StringError, Type, Value,
 };
 
-/// Each version and byte order.
-const DIALECTS: [(u32, bool); 6] =
-    [(1, false), (1, true), (2, false), (2, true), (3, false), (3, true)];
-
 /// A file with one entry for each type that is not an array.
-fn one_of_each(version: u32, big: bool) -> Made {
-    let mut file = made(version, big, 0, 13);
+fn one_of_each(version: u32, order: ByteOrder) -> Made {
+    let mut file = made(version, order, 0, 13);
     file.key("u8", 0).number(1, 200);
     file.key("i8", 1).number(1, 0xfb);
     file.key("u16", 2).number(2, 60000);
@@ -47,8 +44,8 @@ fn values_of_every_type() {
         ("i64", Value::I64(i64::MIN)),
         ("f64", Value::F64(-0.25)),
     ];
-    for (version, big) in DIALECTS {
-        let file = one_of_each(version, big).bytes;
+    for (version, order) in DIALECTS {
+        let file = one_of_each(version, order).bytes;
         let header = read(&file).unwrap();
         assert_eq!(header.entries().len(), 13);
         for (entry, (key, value)) in header.entries().zip(values) {
@@ -61,7 +58,7 @@ fn values_of_every_type() {
 
 #[test]
 fn a_value_as_another_type() {
-    let file = one_of_each(3, false).bytes;
+    let file = one_of_each(3, Little).bytes;
     let header = read(&file).unwrap();
     let get = |key| header.get(key).unwrap();
     assert_eq!((get("u8").as_u64(), get("u8").as_i64()), (Some(200), Some(200)));
@@ -85,7 +82,7 @@ fn a_value_as_another_type() {
 
 #[test]
 fn strings_are_bytes() {
-    let file = made(3, false, 0, 2).key("k", 8).text(b"\xff\0").key("", 8).text("").bytes.clone();
+    let file = made(3, Little, 0, 2).key("k", 8).text(b"\xff\0").key("", 8).text("").bytes.clone();
     let header = read(&file).unwrap();
     assert_eq!(header.get("k").unwrap().as_bytes(), Some(&b"\xff\0"[..]));
     assert_eq!(header.get("k").unwrap().as_str(), None);
@@ -97,8 +94,8 @@ fn strings_are_bytes() {
 
 #[test]
 fn arrays_of_scalars() {
-    for (version, big) in DIALECTS {
-        let mut file = made(version, big, 0, 6);
+    for (version, order) in DIALECTS {
+        let mut file = made(version, order, 0, 6);
         file.array("u16", 2, 3).number(2, 1).number(2, 256).number(2, 65535);
         file.array("i8", 1, 2).number(1, 0x80).number(1, 0x7f);
         file.array("bool", 7, 3).number(1, 0).number(1, 1).number(1, 7);
@@ -120,8 +117,8 @@ fn arrays_of_scalars() {
 }
 
 /// Five strings under a tokenizer's key, and five under another.
-fn tokens(version: u32, big: bool) -> Made {
-    let mut file = made(version, big, 0, 3);
+fn tokens(version: u32, order: ByteOrder) -> Made {
+    let mut file = made(version, order, 0, 3);
     for key in ["tokenizer.ggml.tokens", "general.tags"] {
         file.array(key, 8, 5);
         for item in ["<s>", "", "a", "strut", "pebble"] {
@@ -135,8 +132,8 @@ fn tokens(version: u32, big: bool) -> Made {
 #[test]
 fn arrays_of_strings_and_the_cap() {
     let all = ["<s>", "", "a", "strut", "pebble"].map(|item| Value::String(item.as_bytes()));
-    for (version, big) in DIALECTS {
-        let file = tokens(version, big).bytes;
+    for (version, order) in DIALECTS {
+        let file = tokens(version, order).bytes;
         for (options, kept) in [
             (Options::new(), 3),
             (Options::new().cap(0), 0),
@@ -166,14 +163,14 @@ fn arrays_of_strings_and_the_cap() {
 fn an_item_after_the_kept_ones_is_checked() {
     // The fourth item's size is above 2^30. The key is at 32, its type at 53, the first item at 69;
     // each item before has 9 bytes.
-    let mut file = made(3, false, 0, 1);
+    let mut file = made(3, Little, 0, 1);
     file.array("tokenizer.ggml.tokens", 8, 4).text("a").text("b").text("c").size(u64::MAX);
     assert_eq!(number_and_byte(read(&file.bytes).unwrap_err()), (7, 96));
 }
 
 #[test]
 fn an_array_of_no_items() {
-    let file = made(3, false, 0, 1).array("k", 9, 0).bytes.clone();
+    let file = made(3, Little, 0, 1).array("k", 9, 0).bytes.clone();
     let array = read(&file).unwrap().get("k").unwrap().as_array().unwrap();
     assert_eq!(
         (array.item_type(), array.len(), array.is_empty(), array.iter().next()),
@@ -183,7 +180,7 @@ fn an_array_of_no_items() {
 
 #[test]
 fn of_equal_keys_the_last() {
-    let file = made(3, false, 0, 3)
+    let file = made(3, Little, 0, 3)
         .key("k", 4)
         .number(4, 1)
         .key("k", 8)
@@ -201,7 +198,7 @@ fn of_equal_keys_the_last() {
 
 #[test]
 fn keys_that_are_not_there() {
-    let file = made(3, false, 0, 1).key("key", 4).number(4, 1).bytes.clone();
+    let file = made(3, Little, 0, 1).key("key", 4).number(4, 1).bytes.clone();
     for key in ["", "k", "ke", "keys", "KEY"] {
         assert_eq!(find(&file, key), Ok(None));
         assert_eq!(find_string(&file, key), Err(StringError::Absent));
@@ -212,13 +209,13 @@ fn keys_that_are_not_there() {
 
 #[test]
 fn the_models_family() {
-    let file = made(3, false, 0, 1).key("general.architecture", 8).text("llama").bytes.clone();
+    let file = made(3, Little, 0, 1).key("general.architecture", 8).text("llama").bytes.clone();
     assert_eq!(model_family(&file), Ok(&b"llama"[..]));
     assert_eq!(read(&file).unwrap().model_family(), Some(&b"llama"[..]));
-    let file = made(3, false, 0, 1).key("general.architecture", 4).number(4, 1).bytes.clone();
+    let file = made(3, Little, 0, 1).key("general.architecture", 4).number(4, 1).bytes.clone();
     assert_eq!(model_family(&file), Err(StringError::OtherType));
     assert_eq!(read(&file).unwrap().model_family(), None);
-    assert_eq!(model_family(&made(3, false, 0, 0).bytes), Err(StringError::Absent));
+    assert_eq!(model_family(&made(3, Little, 0, 0).bytes), Err(StringError::Absent));
 }
 
 #[test]
@@ -234,7 +231,7 @@ fn the_files_type() {
         (7, 1, 1, None),
     ];
     for (value_type, width, value, wanted) in cases {
-        let file = made(3, false, 0, 1)
+        let file = made(3, Little, 0, 1)
             .key("general.file_type", value_type)
             .number(width, value)
             .bytes
@@ -242,7 +239,7 @@ fn the_files_type() {
         assert_eq!(file_type(&file), Ok(wanted), "type {value_type}, value {value}");
         assert_eq!(read(&file).unwrap().file_type(), wanted);
     }
-    let file = made(3, false, 0, 1).key("general.file_type", 8).text("1").bytes.clone();
+    let file = made(3, Little, 0, 1).key("general.file_type", 8).text("1").bytes.clone();
     assert_eq!(file_type(&file), Ok(None));
-    assert_eq!(file_type(&made(3, false, 0, 0).bytes), Ok(None));
+    assert_eq!(file_type(&made(3, Little, 0, 0).bytes), Ok(None));
 }

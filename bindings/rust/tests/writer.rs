@@ -3,15 +3,13 @@
 
 mod made;
 
-use made::{a_and_b, made, BLOCKS, NO_BYTES};
+use made::{a_and_b, made, BLOCKS, DIALECTS, NO_BYTES};
 use std::error::Error;
+use strutpebble::ByteOrder::{self, Big, BigMagic, Little};
 use strutpebble::{
-    read, write_header, ByteOrder, Kind, Place, Reason, Refusal, Sheet, SheetError, Type, Value,
-    WriteError, WriteOptions, Written,
+    read, write_header, Kind, Place, Reason, Refusal, Sheet, SheetError, Type, Value, WriteError,
+    WriteOptions, Written,
 };
-
-const LITTLE: ByteOrder = ByteOrder::Little;
-const BIG: ByteOrder = ByteOrder::Big;
 
 /// Writes into bytes that are all 7, and gives them with the answer.
 fn written(
@@ -27,7 +25,7 @@ fn written(
 
 /// The refusal of a sheet, which leaves the output as it was.
 fn refused_bytes(sheet: &[u8], version: u32, alignment: u64) -> (u64, Place) {
-    let (answer, out) = written(sheet, version, LITTLE, alignment);
+    let (answer, out) = written(sheet, version, Little, alignment);
     assert_eq!(out, [7; 256]);
     let refusal = answer.unwrap_err();
     assert!(!matches!(refusal.reason(), Reason::Other(_)));
@@ -52,9 +50,9 @@ fn two_tensors() -> Sheet {
 #[test]
 fn an_empty_sheet() {
     assert_eq!(Sheet::new().bytes(), Ok(vec![1]));
-    let (answer, out) = written(&[1], 3, LITTLE, 32);
+    let (answer, out) = written(&[1], 3, Little, 32);
     assert_eq!(answer, Ok(Written { header_end: 24, data_start: 32 }));
-    assert_eq!(out[..24], made(3, false, 0, 0).bytes);
+    assert_eq!(out[..24], made(3, Little, 0, 0).bytes);
     assert_eq!(out[24..32], [0; 8]);
     assert_eq!(out[32..], [7; 224]);
     assert_eq!(Sheet::new().to_vec().unwrap(), out[..32]);
@@ -62,29 +60,30 @@ fn an_empty_sheet() {
 
 #[test]
 fn an_added_alignment() {
-    let (answer, out) = written(&[1], 3, LITTLE, 64);
+    let (answer, out) = written(&[1], 3, Little, 64);
     assert_eq!(answer, Ok(Written { header_end: 57, data_start: 64 }));
-    assert_eq!(out[..57], made(3, false, 0, 1).key("general.alignment", 4).number(4, 64).bytes);
+    assert_eq!(out[..57], made(3, Little, 0, 1).key("general.alignment", 4).number(4, 64).bytes);
     // Two keys around it: it stands in its sorted place.
     let around = Sheet::new().entry("z", Value::U8(1)).entry("a", Value::Bool(true));
-    let options = WriteOptions::new().version(2).byte_order(BIG).alignment(8);
-    let mut out = [7; 256];
-    let answer = options.write(&around, &mut out).unwrap();
-    let mut wanted = made(2, true, 0, 3);
-    wanted.key("a", 7).number(1, 1);
-    wanted.key("general.alignment", 4).number(4, 8);
-    wanted.key("z", 0).number(1, 1);
-    assert_eq!(out[..answer.header_end as usize], wanted.bytes);
+    for (version, order) in DIALECTS {
+        let options = WriteOptions::new().version(version).byte_order(order).alignment(8);
+        let mut out = [7; 256];
+        let answer = options.write(&around, &mut out).unwrap();
+        let mut wanted = made(version, order, 0, 3);
+        wanted.key("a", 7).number(1, 1);
+        wanted.key("general.alignment", 4).number(4, 8);
+        wanted.key("z", 0).number(1, 1);
+        assert_eq!(out[..answer.header_end as usize], wanted.bytes);
+    }
 }
 
 #[test]
 fn tensors_a_and_b() {
-    for (version, order, end) in
-        [(1, LITTLE, 74), (2, LITTLE, 90), (3, LITTLE, 90), (1, BIG, 74), (3, BIG, 90)]
-    {
+    for (version, order) in DIALECTS {
+        let end = if version == 1 { 74 } else { 90 };
         let (answer, out) = written(&two_tensors().bytes().unwrap(), version, order, 32);
         assert_eq!(answer, Ok(Written { header_end: end, data_start: 96 }));
-        assert_eq!(out[..end as usize], a_and_b(version, order == BIG));
+        assert_eq!(out[..end as usize], a_and_b(version, order));
         assert_eq!(out[end as usize..96], vec![0; 96 - end as usize]);
         assert_eq!(out[96..], [7; 160]);
         let options = WriteOptions::new().version(version).byte_order(order);
@@ -92,6 +91,23 @@ fn tensors_a_and_b() {
         let mut again = [7; 256];
         assert_eq!(options.write(&two_tensors(), &mut again), Ok(answer.unwrap()));
         assert_eq!(again, out);
+        let header = read(&out).unwrap();
+        assert_eq!((header.version(), header.byte_order()), (version, order));
+    }
+}
+
+#[test]
+fn the_front_of_each_byte_order() {
+    for (order, front) in [
+        (Little, [0x47, 0x47, 0x55, 0x46, 3, 0, 0, 0]),
+        (Big, [0x47, 0x47, 0x55, 0x46, 0, 0, 0, 3]),
+        (BigMagic, [0x46, 0x55, 0x47, 0x47, 0, 0, 0, 3]),
+    ] {
+        let file = WriteOptions::new().byte_order(order).to_vec(&Sheet::new()).unwrap();
+        assert_eq!(file.len(), 32);
+        assert_eq!(file[..8], front);
+        assert_eq!(file[8..], [0; 24]);
+        assert_eq!(written(&[1], 3, order, 32).1[..32], file);
     }
 }
 
@@ -106,7 +122,7 @@ fn a_short_output_stays_as_it_was() {
     assert_eq!(refusal.to_string(), words);
     assert_eq!(out, [7; 95]);
     assert!(two_tensors().write(&mut [7; 96]).is_ok());
-    assert_eq!(write_header(&[1], 3, LITTLE, 32, &mut []), Err(refusal));
+    assert_eq!(write_header(&[1], 3, Little, 32, &mut []), Err(refusal));
 }
 
 #[test]
@@ -116,7 +132,7 @@ fn refusals_of_arguments_and_of_raw_sheets() {
     assert_eq!(refused_bytes(&[], 3, 32), (31, Place::Sheet(0)));
     assert_eq!(refused_bytes(&[2], 3, 32), (31, Place::Sheet(0)));
     assert_eq!(refused_bytes(&[1, 0, 0], 3, 32), (31, Place::Sheet(1)));
-    let (answer, _) = written(&[1, 0, 0], 3, LITTLE, 32);
+    let (answer, _) = written(&[1, 0, 0], 3, Little, 32);
     let words = "refused 31 at byte 1 of the sheet: the sheet is not well formed";
     assert_eq!(answer.unwrap_err().to_string(), words);
     // Metadata after a tensor, and a key twice.
@@ -129,6 +145,39 @@ fn refusals_of_arguments_and_of_raw_sheets() {
     assert_eq!(refused_bytes(&[1], 3, 0), (32, Place::Nowhere));
     assert_eq!(refused_bytes(&[1], 3, 12), (32, Place::Nowhere));
     assert_eq!(refused_bytes(&[1], 3, 1 << 32), (33, Place::Nowhere));
+}
+
+/// The refusal of a version in a byte order, which is the same by every way to write.
+fn refused_form(version: u32, order: ByteOrder) -> Refusal {
+    let (answer, out) = written(&two_tensors().bytes().unwrap(), version, order, 32);
+    assert_eq!(out, [7; 256]);
+    let refusal = answer.unwrap_err();
+    let options = WriteOptions::new().version(version).byte_order(order);
+    let mut out = [7; 256];
+    assert_eq!(options.write(&two_tensors(), &mut out), Err(WriteError::Refused(refusal)));
+    assert_eq!(out, [7; 256]);
+    assert_eq!(options.to_vec(&two_tensors()), Err(WriteError::Refused(refusal)));
+    // Before any other reason: no sheet, no alignment, no output.
+    assert_eq!(write_header(&[], version, order, 0, &mut []), Err(refusal));
+    refusal
+}
+
+#[test]
+fn versions_and_byte_orders_30() {
+    for version in [1, 2] {
+        let refusal = refused_form(version, Big);
+        assert_eq!((refusal.number(), refusal.place()), (30, Place::Nowhere));
+        assert_eq!(refusal.reason(), Reason::VersionNotWritten);
+        let words = "refused 30: the version is not 1, 2 or 3, or has no such byte order";
+        assert_eq!(refusal.to_string(), words);
+    }
+    // The last two would be known if their bytes were turned round.
+    for version in [0, 4, u32::MAX, 1 << 24, 3 << 24] {
+        for order in [Little, Big, BigMagic] {
+            let refusal = refused_form(version, order);
+            assert_eq!((refusal.number(), refusal.place()), (30, Place::Nowhere));
+        }
+    }
 }
 
 #[test]
@@ -227,7 +276,7 @@ fn what_is_written_is_aligned() {
         .fold(Sheet::new(), |sheet, length| sheet.tensor("t", Kind::I8, &[length]));
     for alignment in [8, 16, 24, 32, 40, 64, 4096, 1 << 16] {
         let own = sheet.clone().entry("general.alignment", Value::U64(alignment));
-        for (version, order) in [(1, LITTLE), (2, BIG), (3, LITTLE), (3, BIG)] {
+        for (version, order) in DIALECTS {
             let options = WriteOptions::new().version(version).byte_order(order);
             for sheet in [&sheet, &own] {
                 let mut file = options.alignment(alignment).to_vec(sheet).unwrap();
@@ -239,7 +288,7 @@ fn what_is_written_is_aligned() {
                 }
                 // One byte further on, the last one would not be.
                 let offset = header.header_end() - 8;
-                let lowest = offset as usize + if order == BIG { 7 } else { 0 };
+                let lowest = offset as usize + if order.is_big() { 7 } else { 0 };
                 file[lowest] += 1;
                 let refusal = read(&file).unwrap_err();
                 assert_eq!(refusal.reason(), Reason::Misaligned);
@@ -261,7 +310,7 @@ fn sheets_that_cannot_be_made() {
     assert_eq!(out, [7; 256]);
     assert_eq!(mixed.to_vec(), Err(WriteError::Sheet(other_type.clone())));
 
-    let file = made(3, false, 0, 1).array("k", 0, 1).number(1, 5).bytes.clone();
+    let file = made(3, Little, 0, 1).array("k", 0, 1).number(1, 5).bytes.clone();
     let array = read(&file).unwrap().get("k").unwrap();
     let nested = SheetError::NestedArray { key: b"n".to_vec() };
     for item_type in [Type::Array, Type::U8] {
@@ -307,7 +356,7 @@ fn every_type() -> Sheet {
 #[test]
 fn read_back() {
     let sheet = every_type().tensor("t", Kind::Q4_0, &[32, 2]);
-    for (version, order) in [(1, LITTLE), (2, LITTLE), (3, LITTLE), (1, BIG), (2, BIG), (3, BIG)] {
+    for (version, order) in DIALECTS {
         let options = WriteOptions::new().version(version).byte_order(order).alignment(16);
         let file = options.to_vec(&sheet).unwrap();
         let header = read(&file).unwrap();
@@ -319,14 +368,18 @@ fn read_back() {
         assert_eq!(strings.iter().nth(1), Some(Value::String(b"text")));
         let empty = header.get("no f64").unwrap().as_array().unwrap();
         assert_eq!((empty.item_type(), empty.len()), (Type::F64, 0));
-        // What was read, written again, is the same.
+        // What was read, written again as it was read, is the same.
         let again = header
             .entries()
             .fold(Sheet::new(), |sheet, entry| sheet.entry(entry.key(), entry.value()));
         let again = header.tensors().fold(again, |sheet, tensor| {
             sheet.tensor(tensor.name(), tensor.kind(), tensor.lengths())
         });
-        assert_eq!(options.to_vec(&again), Ok(file));
+        let as_read = WriteOptions::new()
+            .version(header.version())
+            .byte_order(header.byte_order())
+            .alignment(header.alignment());
+        assert_eq!(as_read.to_vec(&again), Ok(file));
     }
 }
 

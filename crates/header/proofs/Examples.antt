@@ -56,7 +56,7 @@ tensors1 =
 -- the header of a file of version v with no entries and n tensors, that ends at e, with its data at
 -- d
 abbrev plain : ℕ → ℕ → ℕ → ℕ → Header
-plain v n e d = record { version = v; big = false; entries = 0; tensors = n; alignment = 32; end = e; start = d }
+plain v n e d = record { version = v; big = false; turned = false; entries = 0; tensors = n; alignment = 32; end = e; start = d }
 
 -- a tensor of one length: its name's place, kind, length, offset and size
 abbrev flat : ℕ → ℕ → ℕ → ℕ → ℕ → Tensor
@@ -136,9 +136,9 @@ pub version-4-and-more : readerOutcome full 3 [] (replicate 3 unused) (71 ∷ 71
 unfolding run seen under header magic version start number here _>>=_
 version-4-and-more = refl
 
--- big-endian, version 3, no records
+-- big-endian with the magic turned round too, version 3, no records
 pub big-end : readerRun full 0 [] [] (70 ∷ 85 ∷ 71 ∷ 71 ∷ 0 ∷ 0 ∷ 0 ∷ 3 ∷ 0 ∷ 0 ∷ 0 ∷ 0 ∷ 0 ∷ 0 ∷ 0 ∷ 0 ∷ 0 ∷ 0 ∷ 0 ∷ 0 ∷ 0 ∷ 0 ∷ 0 ∷ 0 ∷ [])
-    ≡ accepted (record { head = record { version = 3; big = true; entries = 0; tensors = 0; alignment = 32; end = 24; start = 32 }; entries = []; tensors = [] }) 24
+    ≡ accepted (record { head = record { version = 3; big = true; turned = true; entries = 0; tensors = 0; alignment = 32; end = 24; start = 32 }; entries = []; tensors = [] }) 24
 unfolding run under each header checkEach magic version start counts size number here _>>=_
 big-end = refl
 
@@ -147,7 +147,7 @@ pub own-alignment : readerRun full 0 ([] ∷ []) []
     ((71 ∷ 71 ∷ 85 ∷ 70 ∷ 3 ∷ 0 ∷ 0 ∷ 0 ∷ 0 ∷ 0 ∷ 0 ∷ 0 ∷ 0 ∷ 0 ∷ 0 ∷ 0 ∷ 1 ∷ 0 ∷ 0 ∷ 0 ∷ 0 ∷ 0 ∷ 0 ∷ 0 ∷ 17 ∷ 0 ∷ 0 ∷ 0 ∷ 0 ∷ 0 ∷ 0 ∷ 0 ∷ []) ++
     (alignmentKey ++ (4 ∷ 0 ∷ 0 ∷ 0 ∷ 64 ∷ 0 ∷ 0 ∷ 0 ∷ [])))
     ≡ accepted (record {
-      head = record { version = 3; big = false; entries = 1; tensors = 0; alignment = 64; end = 57; start = 64 };
+      head = record { version = 3; big = false; turned = false; entries = 1; tensors = 0; alignment = 64; end = 57; start = 64 };
       entries = record { key = record { place = 32; len = 17 }; «is_alignment» = true; value = Single (U32 64) } ∷ [];
       tensors = [];
     }) 57
@@ -163,11 +163,11 @@ abbrev two : Contents
 two = record { entries = []; tensors = weight 97 0 5 0 ∷ weight 98 1 3 32 ∷ [] }
 
 -- their bytes are those of the file, in both versions
-pub written3 : headerBytes (record { version = 3; big = false }) two ≡ tensors3
+pub written3 : headerBytes (record { version = 3; big = false; turned = false }) two ≡ tensors3
 unfolding headerBytes startBytes sizeBytes textBytes tensorBytes shapeBytes lengthBytes kindAndOffsetBytes typeBytes bytesOf little bytesOfAll
 written3 = refl
 
-pub written1 : headerBytes (record { version = 1; big = false }) two ≡ tensors1
+pub written1 : headerBytes (record { version = 1; big = false; turned = false }) two ≡ tensors1
 unfolding headerBytes startBytes sizeBytes textBytes tensorBytes shapeBytes lengthBytes kindAndOffsetBytes typeBytes bytesOf little bytesOfAll
 written1 = refl
 
@@ -177,10 +177,10 @@ fits-shape n h =
     let one : (i : ℕ) → FitsLength 1 i 1 = λ i. record { within = omega arith; beyond = λ e. refl } in
     record { few = omega arith; first = record { within = h; beyond = λ e. absurd (omega arith) }; second = one 1; third = one 2; fourth = one 3 }
 
-pub fits-two : FitsContents (record { entries = 0; tensors = 2 }) (record { version = 3; big = false }) two
+pub fits-two : FitsContents (record { entries = 0; tensors = 2 }) (record { version = 3; big = false; turned = false }) two
 unfolding blockOf headerBytes startBytes sizeBytes textBytes tensorBytes shapeBytes lengthBytes kindAndOffsetBytes typeBytes bytesOf little bytesOfAll
 fits-two = record {
-  version = refl;
+  known = refl;
   entryCount = omega arith;
   tensorCount = omega arith;
   entryRoom = omega arith;
@@ -195,6 +195,6 @@ fits-two = record {
 }
 
 pub two-back : (r : List ℕ) → seen (summaryIn (tensors3 ++ r)) (readerRun full 0 [] ([] ∷ [] ∷ []) (tensors3 ++ r))
-    ≡ accepted (record { dialect = record { version = 3; big = false }; contents = two; alignment = 32; end = 90; start = 96 }) 90
+    ≡ accepted (record { dialect = record { version = 3; big = false; turned = false }; contents = two; alignment = 32; end = 90; start = 96 }) 90
 unfolding headerBytes startBytes sizeBytes textBytes tensorBytes shapeBytes lengthBytes kindAndOffsetBytes typeBytes bytesOf little bytesOfAll
-two-back r = reader-back 0 [] ([] ∷ [] ∷ []) (record { version = 3; big = false }) two r fits-two
+two-back r = reader-back 0 [] ([] ∷ [] ∷ []) (record { version = 3; big = false; turned = false }) two r fits-two

@@ -74,7 +74,7 @@ module _ (rooms : Rooms) (cap : ℕ) (k : Dialect) (c : Contents) (fits : FitsCo
   start-back : {s : List ℕ} (p : ℕ) → Back s same (start rooms) p (startBytes (startIn k c)) (startIn k c)
   unfolding start startBytes
   start-back p =
-      simp append-assoc (exactly _ (magic-back (k .big) p) (exactly _ (version-back k (fits .version) _)
+      simp append-assoc (exactly _ (magic-back (k .turned) p) (exactly _ (version-back k (fits .known) _)
       (counts-back rooms k _ _ (fits .tensorCount) (fits .entryCount) (fits .tensorRoom) (fits .entryRoom) _)))
 
   -- the entries, and the alignment that they give

@@ -4,6 +4,7 @@ pub mod Stages
 pub mod TellingBits
 pub mod EntriesAgain
 pub mod Counted
+pub mod FormKnown
 pub mod KeptRows
 pub mod Stays
 pub mod HeaderCeilings

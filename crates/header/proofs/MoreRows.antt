@@ -51,7 +51,7 @@ module _ (s : List ℕ) where
 
     six-start : ButForSix (run (start rooms) s 0) (run (start more) s 0)
     unfolding start
-    six-start = six-bind magic magic _ _ 0 (inl refl) (λ big q. six-bind (version big) (version big) _ _ q (inl refl) (λ k o. six-counts k o))
+    six-start = six-bind magic magic _ _ 0 (inl refl) (λ turned q. six-bind (version turned) (version turned) _ _ q (inl refl) (λ k o. six-counts k o))
 
     -- so what is read with fewer rows is read with more, unless it is refused 6
     pub more-rows : (cap : ℕ) → ButForSix (run (header rooms cap) s 0) (run (header more cap) s 0)

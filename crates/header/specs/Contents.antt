@@ -19,7 +19,7 @@ use Rattle.fields.specs.Bytes.{Within}
 use Rattle.start.specs.declared.Rooms.{Rooms}
 use Rattle.header.specs.declared.Header.{Header}
 use Rattle.start.specs.declared.Start.{Start}
-use Rattle.start.specs.Format.{knownVersion}
+use Rattle.start.specs.Format.{knownDialect}
 use Rattle.header.specs.Format.{usable, FullHeader}
 use Rattle.start.specs.Contents.{startBytes}
 
@@ -70,7 +70,7 @@ summaryOf k c =
 
 -- the version and byte order of a header
 abbrev pub dialectIn : Header → Dialect
-dialectIn h = record { version = h .version; big = h .big }
+dialectIn h = record { version = h .version; big = h .big; turned = h .turned }
 
 -- the version and byte order that were read
 abbrev pub dialectOf : FullHeader → Dialect
@@ -84,10 +84,10 @@ contentsOf s w = record { entries = map (entryContent (dialectOf w) s) (w .entri
 abbrev pub summaryIn : List ℕ → FullHeader → Summary
 summaryIn s w = record { dialect = dialectOf w; contents = contentsOf s w; alignment = w .head .alignment; end = w .head .end; start = w .head .start }
 
--- What can be written: each number fits its field, there are rows for all records, the start of the
+-- What can be written: the form is one that a file can have, each number fits its field, there are rows for all records, the start of the
 -- data fits 64 bits, and every offset is a multiple of the alignment.
 pub record FitsContents (rooms : Rooms) (k : Dialect) (c : Contents) : Type 0 where
-  pub version : knownVersion (k .version) ≡ true
+  pub known : knownDialect k ≡ true
   pub entryCount : Within (sizeWidth k) (length (c .entries))
   pub tensorCount : Within (sizeWidth k) (length (c .tensors))
   pub entryRoom : length (c .entries) ≤ rooms .entries

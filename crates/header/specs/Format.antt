@@ -49,7 +49,7 @@ latest a e = if e .«is_alignment» then alignmentOf (e .value) else a
 -- what a header says of itself, where its alignment is a and it ends at e
 abbrev pub headerOf : Start → ℕ → ℕ → Header
 headerOf c a e =
-    record { version = c .dialect .version; big = c .dialect .big; entries = c .entries; tensors = c .tensors; alignment = a; end = e; start = padded a e }
+    record { version = c .dialect .version; big = c .dialect .big; turned = c .dialect .turned; entries = c .entries; tensors = c .tensors; alignment = a; end = e; start = padded a e }
 
 -- a header, its entries and its tensors
 pub record FullHeader : Type 0 where

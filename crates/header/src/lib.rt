@@ -42,10 +42,12 @@ ghost use Rattle.header.specs.Format as format;
 // How many entry rows are kept while a header is tested. Nearly all headers have no more entries.
 const KEPT: usize = 64;
 
-// What a header says of itself. The counts are the file's own; its data begins at start.
+// What a header says of itself. Where its numbers are big-endian, its magic may be turned round too.
+// The counts are the file's own; its data begins at start.
 pub struct Header {
     pub version: u64,
     pub big: bool,
+    pub turned: bool,
     pub entries: u64,
     pub tensors: u64,
     pub alignment: u64,
@@ -335,6 +337,7 @@ fn header_if_it_fits(start: Start, alignment: u64, end: usize, misaligned: usize
                 header: Header {
                     version: dialect.version,
                     big: dialect.big,
+                    turned: dialect.turned,
                     entries: start.entries,
                     tensors: start.tensors,
                     alignment,

@@ -15,6 +15,10 @@ U8, I8, U16, I16, U32, I32, F32, BOOL, STRING, ARRAY, U64, I64, F64 = range(13)
 WIDTHS = {U8: 1, I8: 1, U16: 2, I16: 2, U32: 4, I32: 4, F32: 4, BOOL: 1, U64: 8, I64: 8, F64: 8}
 INTEGERS = {U8, I8, U16, I16, U32, I32, U64, I64}
 
+# Byte orders: whether numbers are big-endian, and the magic in front of them. Other tools keep the
+# magic of a little-endian file in front of a big-endian one of version 3; that is BIG.
+LITTLE, BIG, BIG_MAGIC = (False, b"GGUF"), (True, b"GGUF"), (True, b"FUGG")
+
 # The bytes of a block of each kind; a kind that is not here is none.
 TYPE_SIZES = {
     0: 4, 1: 2, 2: 18, 3: 20, 6: 22, 7: 24, 8: 34, 9: 36, 10: 84, 11: 110, 12: 144, 13: 176,
@@ -72,8 +76,8 @@ class File:
     A function that writes a field answers the field's place.
     """
 
-    def __init__(self, version=3, big=False):
-        self.version, self.big = version, big
+    def __init__(self, version=3, order=LITTLE):
+        self.version, (self.big, self.magic) = version, order
         self.bytes, self.entries, self.tensors = b"", [], []
         # The place of each tensor's offset, with the offset.
         self.offsets = []
@@ -103,7 +107,7 @@ class File:
 
     def start(self, tensors, entries):
         """The magic, the version and both counts. The places are those of the counts."""
-        self.raw(b"FUGG" if self.big else b"GGUF")
+        self.raw(self.magic)
         self.number(4, self.version)
         return self.size(tensors), self.size(entries)
 
@@ -224,14 +228,14 @@ def check_names():
             assert file.answer.startswith(b"gguf v"), name
 
 
-def new(name, version=3, big=False):
-    CASES[name] = File(version, big)
+def new(name, version=3, order=LITTLE):
+    CASES[name] = File(version, order)
     return CASES[name]
 
 
-def whole(name, entries=(), tensors=(), version=3, big=False, after=b""):
+def whole(name, entries=(), tensors=(), version=3, order=LITTLE, after=b""):
     """A header of these contents, with their counts, and bytes after it."""
-    file = new(name, version, big)
+    file = new(name, version, order)
     file.start(len(tensors), len(entries))
     for entry in entries:
         file.entry(*entry)
@@ -265,12 +269,15 @@ def small_headers():
     whole("empty_v1", version=1)
     whole("empty_v2", version=2)
     whole("empty_v3")
-    whole("empty_big_end", big=True)
+    whole("empty_big_end", order=BIG)
+    whole("empty_big_end_magic", order=BIG_MAGIC)
     whole("two_tensors_v1", tensors=A_AND_B, version=1)
     whole("two_tensors_v2", tensors=A_AND_B, version=2)
     whole("two_tensors_v3", tensors=A_AND_B)
-    whole("two_tensors_big_end", tensors=A_AND_B, big=True)
-    whole("two_tensors_v1_big_end", tensors=A_AND_B, version=1, big=True)
+    whole("two_tensors_big_end", tensors=A_AND_B, order=BIG)
+    whole("two_tensors_big_end_magic", tensors=A_AND_B, order=BIG_MAGIC)
+    whole("two_tensors_v1_big_end_magic", tensors=A_AND_B, version=1, order=BIG_MAGIC)
+    whole("two_tensors_v2_big_end_magic", tensors=A_AND_B, version=2, order=BIG_MAGIC)
     whole("data_after_the_header", tensors=A_AND_B, after=bytes(range(50)))
 
 
@@ -296,7 +303,8 @@ def types():
     whole("every_type", [(names[kind], kind, values.get(kind, 0)) for kind in range(13)])
     values = {STRING: b"", ARRAY: (U16, [258]), U64: 258, I64: -2, F64: 7}
     entries = [(names[kind], kind, values.get(kind, 1)) for kind in range(13)]
-    whole("every_type_big_end", entries, big=True)
+    whole("every_type_big_end", entries, order=BIG)
+    whole("every_type_big_end_magic", entries, order=BIG_MAGIC)
     arrays = [(b"arrays.%d" % kind, ARRAY, (kind, [1, 1, 1])) for kind in WIDTHS]
     arrays.append((b"arrays.8", ARRAY, (STRING, [b"x", b"", b"yz"])))
     arrays.append((b"arrays.9", ARRAY, (ARRAY, [])))
@@ -363,6 +371,12 @@ def cut_off():
     file = new("refused_1_in_the_second_count")
     tensors, entries = file.start(600, 0)
     file.cut(entries, 7)
+    file = new("refused_1_in_a_big_end_version", order=BIG)
+    file.start(0, 0)
+    file.cut(len(b"GGUF"), 3)
+    file = new("refused_1_in_the_first_count_big_end", order=BIG)
+    tensors, entries = file.start(0, 0)
+    file.cut(tensors, 7)
     file = front("refused_1_in_the_last_offset", tensors=2)
     file.tensor(*A_AND_B[0])
     file.tensor(*A_AND_B[1])
@@ -385,6 +399,15 @@ def no_such_format():
         file = new("refused_4_version_%d" % version, version)
         file.start(0, 0)
         file.refused(4, len(b"GGUF"))
+    # Behind this magic big-endian numbers are there in version 3 alone, and behind the other one
+    # there are no others.
+    for version in [0, 1, 2, 4]:
+        file = new("refused_4_big_end_version_%d" % version, version, BIG)
+        file.start(0, 0)
+        file.refused(4, len(b"GGUF"))
+    file = new("refused_4_little_end_behind_the_other_magic", order=(False, b"FUGG"))
+    file.start(0, 0)
+    file.refused(4, len(b"FUGG"))
 
 
 def too_many():
@@ -439,7 +462,8 @@ def misaligned():
     """An offset that is not a multiple of the alignment, alone and before other faults."""
     whole("refused_16", tensors=a_and_b(0, 33))
     whole("refused_16_v1", tensors=a_and_b(0, 33), version=1)
-    whole("refused_16_big_end", tensors=a_and_b(0, 33), big=True)
+    whole("refused_16_big_end", tensors=a_and_b(0, 33), order=BIG)
+    whole("refused_16_big_end_magic", tensors=a_and_b(0, 33), order=BIG_MAGIC)
     whole("refused_16_first_of_two", tensors=a_and_b(8, 33))
     whole("refused_16_of_length_0", tensors=[(b"t", 0, [0], 33)])
     whole("refused_16_of_no_bytes", tensors=[(b"t", 31, [256], 33)])

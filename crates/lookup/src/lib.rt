@@ -107,6 +107,7 @@ pub fn find(s: &[u8], key: &[u8]) -> Lookup
             let dialect = Dialect {
                 version: head.version,
                 big: head.big,
+                turned: head.turned,
             };
             let at = start::first_entry(dialect);
             match find_last(s, at, head.entries, dialect, key) {

@@ -19,40 +19,36 @@ use Rattle.plan.specs.declared.Planned.{Planned}
 use Rattle.plan.specs.declared.Planned.the-variants.{Refused}
 use Rattle.plan.specs.Header.{ownAlignment, adds, entriesOf, pieceOf, recordsIn}
 use Rattle.plan.specs.Plan.{requireFormed, canAdd, agrees, laidOf, requireLaid, countsFit, draftWith, draftOf, planFor}
+use Rattle.start.specs.Format.{knownDialect}
 use Rattle.header.specs.Format.{isAlignment}
 use Rattle.plan.specs.Steps.{roomed, laid, aligned}
 use Rattle.plan.proofs.Drafts.{entries-count}
 
--- The version, and whether the sheet is well formed.
+-- The form, and whether the sheet is well formed.
 
 module _ (k : Dialect) (a room : ℕ) (s : List ℕ) where
-  pub version-none : k .version ≡ 0 → Refused 30 0 ≡ planFor k a room s
+  pub form-unknown : knownDialect k ≡ false → Refused 30 0 ≡ planFor k a room s
   unfolding planFor
-  version-none e = rw (eq-eqb (k .version) 0 e)
+  form-unknown e = rw e
 
-  module _ (some : k .version ≡ 0 → ⊥) where
-    pub version-above : 3 < k .version → Refused 30 0 ≡ planFor k a room s
+  module _ (known : knownDialect k ≡ true) where
+    by-sheet : requireFormed (sheetOf s) 31 (aligned k a room) ≡ planFor k a room s
     unfolding planFor
-    version-above h = rw (ne-eqb (k .version) 0 some, lt-leb (k .version) 3 h)
+    by-sheet = rw known
 
-    module _ (known : k .version ≤ 3) where
-      by-sheet : requireFormed (sheetOf s) 31 (aligned k a room) ≡ planFor k a room s
-      unfolding planFor
-      by-sheet = rw (ne-eqb (k .version) 0 some, le-leb (k .version) 3 known)
+    bad-cases : (r : Answer Records) {p : ℕ} → Bad p ≡ checkedOf r → Refused 31 p ≡ requireFormed r 31 (aligned k a room)
+    bad-cases (accepted c e) i = let z : _≡_ {A = ℕ} 0 1 = cc in absurd (omega arith)
+    bad-cases (refused n o) {p} i = let l : p ≡ o = cc in rw l
 
-      bad-cases : (r : Answer Records) {p : ℕ} → Bad p ≡ checkedOf r → Refused 31 p ≡ requireFormed r 31 (aligned k a room)
-      bad-cases (accepted c e) i = let z : _≡_ {A = ℕ} 0 1 = cc in absurd (omega arith)
-      bad-cases (refused n o) {p} i = let l : p ≡ o = cc in rw l
+    pub not-formed : {p : ℕ} → Bad p ≡ checkedOf (sheetOf s) → Refused 31 p ≡ planFor k a room s
+    not-formed e = bad-cases (sheetOf s) e ∙ by-sheet
 
-      pub not-formed : {p : ℕ} → Bad p ≡ checkedOf (sheetOf s) → Refused 31 p ≡ planFor k a room s
-      not-formed e = bad-cases (sheetOf s) e ∙ by-sheet
+    formed-cases : (r : Answer Records) → isAccepted r ≡ true → aligned k a room (recordsIn r) ≡ requireFormed r 31 (aligned k a room)
+    formed-cases (accepted c e) h = refl
+    formed-cases (refused n o) h = let z : _≡_ {A = ℕ} 0 1 = cc in absurd (omega arith)
 
-      formed-cases : (r : Answer Records) → isAccepted r ≡ true → aligned k a room (recordsIn r) ≡ requireFormed r 31 (aligned k a room)
-      formed-cases (accepted c e) h = refl
-      formed-cases (refused n o) h = let z : _≡_ {A = ℕ} 0 1 = cc in absurd (omega arith)
-
-      pub well-formed : isAccepted (sheetOf s) ≡ true → aligned k a room (recordsIn (sheetOf s)) ≡ planFor k a room s
-      well-formed h = formed-cases (sheetOf s) h ∙ by-sheet
+    pub well-formed : isAccepted (sheetOf s) ≡ true → aligned k a room (recordsIn (sheetOf s)) ≡ planFor k a room s
+    well-formed h = formed-cases (sheetOf s) h ∙ by-sheet
 
 -- what is counted of a sheet that is well formed
 pub counted : (r : Answer Records) {n m f : ℕ} → WellFormed n m f ≡ checkedOf r → (isAccepted r ≡ true) × (record { entries = n; tensors = m; first = f; adds = false } ≡ draftWith false (recordsIn r))

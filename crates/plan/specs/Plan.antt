@@ -1,5 +1,5 @@
 -- Whether a sheet can be written: the tests in their order. The refusals:
---   30  a version other than 1, 2 and 3
+--   30  a version other than 1, 2 and 3, or one in which a file can't have this byte order
 --   31  a sheet that is not well formed, at its first bad entry
 --   32  an alignment that is 0 or no multiple of 8
 --   33  an alignment above 2 ^ 32 - 1 that must be added
@@ -16,7 +16,7 @@ use Rattle.reading.specs.Choice.{if_then_else_, require}
 use Rattle.reading.specs.Reading.{Answer, accepted, refused}
 use Rattle.layout.specs.Layout.{Layout, laidOut, refusedAt, layoutOf}
 use Rattle.values.specs.declared.Dialect.{Dialect}
-use Rattle.start.specs.Format.{knownVersion}
+use Rattle.start.specs.Format.{knownDialect}
 use Rattle.header.specs.Format.{isAlignment}
 use Rattle.sheet.specs.Sheet.{Records, sheetOf}
 use Rattle.plan.specs.declared.OwnAlignment.{OwnAlignment}
@@ -74,7 +74,7 @@ planOf k a c = record { draft = draftOf a c; end = endOf k a c; start = startOf 
 -- the output, and a sheet. A tensor that can't be laid is refused as 35, 17, 13, 14, 15 or 36
 unfoldable pub planFor : Dialect → ℕ → ℕ → List ℕ → Planned
 planFor k a room s =
-    require (knownVersion (k .version)) (Refused 30 0)
+    require (knownDialect k) (Refused 30 0)
     (requireFormed (sheetOf s) 31 (λ c.
     require (isAlignment a) (Refused 32 0)
     (require (canAdd a (ownAlignment (c .entries))) (Refused 33 0)

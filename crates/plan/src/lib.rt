@@ -395,10 +395,7 @@ fn plan_alignment(s: &[u8], dialect: Dialect, alignment: u64, draft: Draft, room
 pub fn plan_header(s: &[u8], dialect: Dialect, alignment: u64, room: usize) -> Planned
     ensures { λ r. ⌜ r ≡ plan_of.planFor dialect alignment room (now (s .entry)) ⌝ }
 {
-    if dialect.version == 0 {
-        return Planned::Refused { why: 30, place: 0 };
-    }
-    if 3 < dialect.version {
+    if !start::is_known(dialect) {
         return Planned::Refused { why: 30, place: 0 };
     }
     match sheet::check(s) {

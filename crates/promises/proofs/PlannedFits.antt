@@ -171,7 +171,7 @@ module _ {k : Dialect} {a room : ℕ} {s : List ℕ} {plan : Plan} (p : PlannedB
       let starts : startOf k a (p .records) ≤ greatest = omega (arith, p .within) in
       let counts = both-counts small in
       record {
-        version = p .version;
+        known = p .known;
         entryCount = counts .0;
         tensorCount = counts .1;
         entryRoom = entries;

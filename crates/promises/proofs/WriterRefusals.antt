@@ -27,7 +27,7 @@ use Rattle.tensors.specs.Format.{lengthAt, lengthsOf}
 use Rattle.values.specs.declared.Dialect.{Dialect}
 use Rattle.values.specs.Contents.{sizeBytes}
 use Rattle.start.specs.Contents.{startBytes}
-use Rattle.start.specs.Format.{knownVersion}
+use Rattle.start.specs.Format.{knownDialect}
 use Rattle.header.specs.Contents.{headerBytes}
 use Rattle.header.specs.Format.{isAlignment}
 use Rattle.ranges.specs.declared.RangeCheck.the-variants.{Refused as Outside}
@@ -217,7 +217,7 @@ formed-listed k a room s (accepted c e) is h =
 plan-listed : (k : Dialect) (a room : ℕ) (s : List ℕ) → ListedPlan (length s) (length (recordsIn (sheetOf s) .tensors)) (planFor k a room s)
 unfolding planFor
 plan-listed k a room s =
-    by-test (ListedPlan (length s) (length (recordsIn (sheetOf s) .tensors))) (knownVersion (k .version)) _ _ (λ t. at-zero _ _ 30 refl refl refl)
+    by-test (ListedPlan (length s) (length (recordsIn (sheetOf s) .tensors))) (knownDialect k) _ _ (λ t. at-zero _ _ 30 refl refl refl)
     (formed-listed k a room s (sheetOf s) refl (sheet-up-to s))
 
 refused-plan : (bytes tensors : ℕ) (p : Planned) {n i : ℕ} → writtenOf p ≡ NotWritten n i → ListedPlan bytes tensors p → Listed bytes tensors n i

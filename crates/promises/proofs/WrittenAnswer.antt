@@ -26,6 +26,7 @@ abbrev headOf : Summary → Header
 headOf t = record {
   version = t .dialect .version;
   big = t .dialect .big;
+  turned = t .dialect .turned;
   entries = length (t .contents .entries);
   tensors = length (t .contents .tensors);
   alignment = t .alignment;
@@ -58,6 +59,7 @@ pub written-answer : (k : Dialect) (a : ℕ) (s out : List ℕ) → All Byte s �
     → seen (λ (w : FullHeader). w .head) (readerRun full cap es ts (outputFor k a s out ++ r)) ≡ accepted (record {
       version = k .version;
       big = k .big;
+      turned = k .turned;
       entries = length (contentsFor a s .entries);
       tensors = length (contentsFor a s .tensors);
       alignment = a;

@@ -20,7 +20,7 @@ use Rattle.plan.specs.Plan.{planFor}
 use Rattle.writer.specs.declared.HeaderWritten.the-variants.{Written}
 use Rattle.writer.specs.Output.{writtenOf, headerFor, leftBy}
 use Rattle.writer.proofs.Planned.{PlannedBy, planned-by}
-use Rattle.promises.specs.Back.{answerFor, outputFor, readIn, contentsFor, summaryFor, Enough, versionless}
+use Rattle.promises.specs.Back.{answerFor, outputFor, readIn, contentsFor, summaryFor, Enough, SameOrder, versionless}
 use Rattle.promises.proofs.PlannedFits.{planned-alignment, planned-fits}
 
 module _ {k : Dialect} {a room : ℕ} {s : List ℕ} {plan : Plan} (all : All Byte s) (small : room < 2 ^ 64) (p : PlannedBy k a room s plan) where
@@ -82,9 +82,9 @@ module _ (k : Dialect) (a : ℕ) (s out : List ℕ) (bytes : All Byte s) (small 
 
 -- One sheet at one alignment, written twice, in two versions of one byte order: what is read of
 -- both is the same but for the version, the header's end and the start of its data.
-pub versions-never-lie : (k k′ : Dialect) (a : ℕ) (s out out′ : List ℕ) → All Byte s → length out < 2 ^ 64 → length out′ < 2 ^ 64 → k .big ≡ k′ .big
+pub versions-never-lie : (k k′ : Dialect) (a : ℕ) (s out out′ : List ℕ) → All Byte s → length out < 2 ^ 64 → length out′ < 2 ^ 64 → SameOrder k k′
     → {end start end′ start′ : ℕ} → Written end start ≡ answerFor k a s out → Written end′ start′ ≡ answerFor k′ a s out′
     → (cap : ℕ) (es ts : List (List ℕ)) → Enough a s es ts → (r r′ : List ℕ)
     → versionless (readIn cap es ts (outputFor k a s out ++ r)) ≡ versionless (readIn cap es ts (outputFor k′ a s out′ ++ r′))
 versions-never-lie k k′ a s out out′ bytes small small′ order wrote wrote′ cap es ts rows r r′ =
-    ap versionless (written-reads-back k a s out bytes small wrote cap es ts rows r) ∙ rw order refl ∙ sym (ap versionless (written-reads-back k′ a s out′ bytes small′ wrote′ cap es ts rows r′))
+    ap versionless (written-reads-back k a s out bytes small wrote cap es ts rows r) ∙ rw (order .0, order .1) refl ∙ sym (ap versionless (written-reads-back k′ a s out′ bytes small′ wrote′ cap es ts rows r′))

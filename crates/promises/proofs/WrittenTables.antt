@@ -19,7 +19,7 @@ use Rattle.header.specs.Answers.{Outcome, readerRun, outcomeOf, readerOutcome}
 use Rattle.header.specs.Contents.{Summary, summaryIn, dialectOf}
 use Rattle.header.specs.Format.{FullHeader}
 use Rattle.writer.specs.declared.HeaderWritten.the-variants.{Written}
-use Rattle.promises.specs.Back.{answerFor, outputFor, contentsFor, summaryFor, Enough, versionless}
+use Rattle.promises.specs.Back.{answerFor, outputFor, contentsFor, summaryFor, Enough, SameOrder, versionless}
 use Rattle.promises.specs.RowContents.{entryInRow, tensorInRow, headFor, SaysSheet, summaryInTables, tablesTell}
 use Rattle.promises.proofs.RowsSay.{values-in-rows, entries-said, tensors-said}
 use Rattle.promises.proofs.WrittenReadsBack.{written-reads-back}
@@ -82,7 +82,7 @@ sheet-told k a s end start es ts bytes o says = ap (seen (summaryInTables bytes 
 -- caps into any tables: what both answers and the rows of all four tables tell is the same (keys,
 -- types and values; names, shapes, kinds, offsets and sizes; the alignment) but for the version,
 -- the header's end and the start of its data.
-pub versions-never-lie-in-tables : (k k′ : Dialect) (a : ℕ) (s out out′ : List ℕ) → All Byte s → length out < 2 ^ 64 → length out′ < 2 ^ 64 → k .big ≡ k′ .big
+pub versions-never-lie-in-tables : (k k′ : Dialect) (a : ℕ) (s out out′ : List ℕ) → All Byte s → length out < 2 ^ 64 → length out′ < 2 ^ 64 → SameOrder k k′
     → {end start end′ start′ : ℕ} → Written end start ≡ answerFor k a s out → Written end′ start′ ≡ answerFor k′ a s out′
     → (cap cap′ : ℕ) (es ts es′ ts′ : List (List ℕ)) → Enough a s es ts → Enough a s es′ ts′ → (r r′ : List ℕ)
     → versionless (tablesTell (outputFor k a s out ++ r) (readerOutcome full cap es ts (outputFor k a s out ++ r)))
@@ -90,4 +90,4 @@ pub versions-never-lie-in-tables : (k k′ : Dialect) (a : ℕ) (s out out′ : 
 versions-never-lie-in-tables k k′ a s out out′ bytes small small′ order wrote wrote′ cap cap′ es ts es′ ts′ rows rows′ r r′ =
     let told = sheet-told k a s _ _ es ts _ _ (written-tables k a s out bytes small wrote cap es ts rows r) in
     let told′ = sheet-told k′ a s _ _ es′ ts′ _ _ (written-tables k′ a s out′ bytes small′ wrote′ cap′ es′ ts′ rows′ r′) in
-    ap versionless told ∙ rw order refl ∙ sym (ap versionless told′)
+    ap versionless told ∙ rw (order .0, order .1) refl ∙ sym (ap versionless told′)

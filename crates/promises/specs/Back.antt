@@ -1,6 +1,7 @@
 -- What the promises over the writer and the reader speak of: what the writer leaves, what the
 -- reader makes of bytes, and what it is to make of those.
 use Prim.Native.Nat.{ℕ, _≤_}
+use mathlib.Core.Path.{_≡_}
 use mathlib.Core.List.{List, map}
 use lib.ListN.{length}
 use Rattle.reading.specs.Reading.{Answer, accepted, refused, seen}
@@ -54,8 +55,12 @@ pub record Enough (a : ℕ) (s : List ℕ) (es ts : List (List ℕ)) : Type 0 wh
   pub entries : length (contentsFor a s .entries) ≤ length es
   pub tensors : length (contentsFor a s .tensors) ≤ length ts
 
+-- the same byte order, and the magic turned round in both or in neither
+abbrev pub SameOrder : Dialect → Dialect → Type 0
+SameOrder k k′ = (k .big ≡ k′ .big) × (k .turned ≡ k′ .turned)
+
 -- an answer but for what a version decides: the version itself, where the header ends, and where
 -- its data starts
 abbrev pub versionless : Answer Summary → Answer Summary
-versionless (accepted t q) = accepted (record { dialect = record { version = 0; big = t .dialect .big }; contents = t .contents; alignment = t .alignment; end = 0; start = 0 }) 0
+versionless (accepted t q) = accepted (record { dialect = record { version = 0; big = t .dialect .big; turned = t .dialect .turned }; contents = t .contents; alignment = t .alignment; end = 0; start = 0 }) 0
 versionless (refused n p) = refused n p

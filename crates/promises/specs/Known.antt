@@ -2,7 +2,7 @@
 use Prim.Native.Nat.{ℕ, _-_, _^_}
 use mathlib.Core.Path.{_≡_}
 use mathlib.Core.List.{List, [], _∷_, _++_, map}
-use mathlib.Core.Bool.{false}
+use mathlib.Core.Bool.{true, false}
 use lib.ListN.{replicate}
 use Rattle.reading.specs.Reading.{Answer, accepted, refused, seen}
 use Rattle.kinds.specs.declared.Measure.the-variants.{Bytes, Refused as Unmeasured}
@@ -29,6 +29,18 @@ empty3 = 0x47 ∷ 0x47 ∷ 0x55 ∷ 0x46 ∷ 3 ∷ 0 ∷ 0 ∷ 0 ∷ replicate 1
 -- version 1
 abbrev pub empty1 : List ℕ
 empty1 = 0x47 ∷ 0x47 ∷ 0x55 ∷ 0x46 ∷ 1 ∷ 0 ∷ 0 ∷ 0 ∷ replicate 8 0
+
+-- version 3, big-endian behind the same magic
+abbrev pub emptyBig : List ℕ
+emptyBig = 0x47 ∷ 0x47 ∷ 0x55 ∷ 0x46 ∷ 0 ∷ 0 ∷ 0 ∷ 3 ∷ replicate 16 0
+
+-- the version v, big-endian with the magic turned round too, and n zeros
+abbrev pub emptyTurned : ℕ → ℕ → List ℕ
+emptyTurned v n = 0x46 ∷ 0x55 ∷ 0x47 ∷ 0x47 ∷ 0 ∷ 0 ∷ 0 ∷ v ∷ replicate n 0
+
+-- the magic and version bytes that would be the version v, big-endian behind the same magic
+abbrev pub startBig : ℕ → List ℕ
+startBig v = 0x47 ∷ 0x47 ∷ 0x55 ∷ 0x46 ∷ 0 ∷ 0 ∷ 0 ∷ v ∷ []
 
 -- version 3: a, of kind 0, with 5 numbers, at offset p; and b, of kind k, with 3 numbers, at offset q
 abbrev pub twoIn3 : ℕ → ℕ → ℕ → List ℕ
@@ -87,6 +99,13 @@ twoIn1 p q =
 abbrev pub tensors1 : List ℕ
 tensors1 = twoIn1 0 32
 
+-- the same in version 3, big-endian behind the same magic
+abbrev pub tensorsBig : List ℕ
+tensorsBig =
+    0x47 ∷ 0x47 ∷ 0x55 ∷ 0x46 ∷ 0 ∷ 0 ∷ 0 ∷ 3 ∷ 0 ∷ 0 ∷ 0 ∷ 0 ∷ 0 ∷ 0 ∷ 0 ∷ 2 ∷ 0 ∷ 0 ∷ 0 ∷ 0 ∷ 0 ∷ 0 ∷ 0 ∷ 0 ∷
+    0 ∷ 0 ∷ 0 ∷ 0 ∷ 0 ∷ 0 ∷ 0 ∷ 1 ∷ 97 ∷ 0 ∷ 0 ∷ 0 ∷ 1 ∷ 0 ∷ 0 ∷ 0 ∷ 0 ∷ 0 ∷ 0 ∷ 0 ∷ 5 ∷ 0 ∷ 0 ∷ 0 ∷ 0 ∷ 0 ∷ 0 ∷ 0 ∷ 0 ∷ 0 ∷ 0 ∷ 0 ∷ 0 ∷
+    0 ∷ 0 ∷ 0 ∷ 0 ∷ 0 ∷ 0 ∷ 0 ∷ 1 ∷ 98 ∷ 0 ∷ 0 ∷ 0 ∷ 1 ∷ 0 ∷ 0 ∷ 0 ∷ 0 ∷ 0 ∷ 0 ∷ 0 ∷ 3 ∷ 0 ∷ 0 ∷ 0 ∷ 1 ∷ 0 ∷ 0 ∷ 0 ∷ 0 ∷ 0 ∷ 0 ∷ 0 ∷ 32 ∷ []
+
 -- The record sheet of those two: lengths, tags, names, kinds and shapes.
 abbrev pub sheetAB : List ℕ
 sheetAB =
@@ -98,12 +117,23 @@ sheetAB =
 
 -- little-endian, in the version v
 abbrev pub little : ℕ → Dialect
-little v = record { version = v; big = false }
+little v = record { version = v; big = false; turned = false }
 
--- the header of a file of the version v with no entries and n tensors, that ends at e, with its
--- data at d
+-- big-endian behind the same magic
+abbrev pub big : ℕ → Dialect
+big v = record { version = v; big = true; turned = false }
+
+-- big-endian with the magic turned round too
+abbrev pub bigTurned : ℕ → Dialect
+bigTurned v = record { version = v; big = true; turned = true }
+
+-- the header of a file with no entries and n tensors, that ends at e, with its data at d
+abbrev pub headIn : Dialect → ℕ → ℕ → ℕ → Header
+headIn k n e d = record { version = k .version; big = k .big; turned = k .turned; entries = 0; tensors = n; alignment = 32; end = e; start = d }
+
+-- the same in the version v, little-endian
 abbrev pub plain : ℕ → ℕ → ℕ → ℕ → Header
-plain v n e d = record { version = v; big = false; entries = 0; tensors = n; alignment = 32; end = e; start = d }
+plain v n e d = headIn (little v) n e d
 
 -- a tensor of one length: its name's place, kind, length, offset and size
 abbrev pub flat : ℕ → ℕ → ℕ → ℕ → ℕ → Tensor
@@ -148,6 +178,13 @@ pub record Known : Type 0 where
   -- the header ends at 90 and at 74, and the data is at 96
   pub two-3 : readerRun full 0 [] ([] ∷ [] ∷ []) tensors3 ≡ accepted (record { head = plain 3 2 90 96; entries = []; tensors = flat 32 0 5 0 20 ∷ flat 65 1 3 32 6 ∷ [] }) 90
   pub two-1 : readerRun full 0 [] ([] ∷ [] ∷ []) tensors1 ≡ accepted (record { head = plain 1 2 74 96; entries = []; tensors = flat 20 0 5 0 20 ∷ flat 49 1 3 32 6 ∷ [] }) 74
+  -- the same, big-endian behind the same magic; a reader held to version 2 refuses it at its version,
+  -- and versions 1 and 2 have no such form
+  pub empty-big : readerRun full 0 [] [] emptyBig ≡ accepted (record { head = headIn (big 3) 0 24 32; entries = []; tensors = [] }) 24
+  pub two-big : readerRun full 0 [] ([] ∷ [] ∷ []) tensorsBig ≡ accepted (record { head = headIn (big 3) 2 90 96; entries = []; tensors = flat 32 0 5 0 20 ∷ flat 65 1 3 32 6 ∷ [] }) 90
+  pub two-big-held : readerRun (record { versions = 2; kinds = 39 }) 0 [] ([] ∷ [] ∷ []) tensorsBig ≡ refused 5 4
+  pub big-1 : readerRun full 0 [] [] (startBig 1) ≡ refused 4 4
+  pub big-2 : readerRun full 0 [] [] (startBig 2) ≡ refused 4 4
   pub two-laid : layoutOf 32 (piece 5 0 ∷ piece 3 1 ∷ []) ≡ laidOut (0 ∷ 32 ∷ []) (record { total = 8; next = 64 })
   -- a file of 134 bytes holds them, and one of 133 does not hold tensor 1
   pub file-134 : checkFrom 96 134 0 rowsAB ≡ Inside
@@ -192,12 +229,20 @@ pub record Known : Type 0 where
   -- an alignment of 64 that is the last entry decides: 32 is misaligned, and 64 is not
   pub misaligned-last : readerRun full 0 ([] ∷ [] ∷ []) ([] ∷ []) (alignedLast3 32) ≡ refused 16 96
   pub aligned-last : seen (λ w. w .head) (readerRun full 0 ([] ∷ [] ∷ []) ([] ∷ []) (alignedLast3 64))
-      ≡ accepted (record { version = 3; big = false; entries = 2; tensors = 1; alignment = 64; end = 104; start = 128 }) 104
+      ≡ accepted (record { version = 3; big = false; turned = false; entries = 2; tensors = 1; alignment = 64; end = 104; start = 128 }) 104
   -- a sheet of no bytes is refused, whatever the output
   pub no-sheet : (out : List ℕ) → answerFor (little 3) 32 [] out ≡ NotWritten 31 0
-  -- the sheet of the byte 1: 24 bytes, then 8 zeros; and, with alignment 64, 57 bytes, then 7 zeros
+  -- the sheet of the byte 1: 24 bytes, then 8 zeros
   pub only-version : answerFor (little 3) 32 (1 ∷ []) (replicate 32 255) ≡ Written 24 32
   pub then-zeros : outputFor (little 3) 32 (1 ∷ []) (replicate 33 255) ≡ empty3 ++ replicate 8 0 ++ (255 ∷ [])
+  -- the same in both big-endian forms, of which the one behind the same magic is there in version 3
+  -- alone
+  pub then-zeros-big : outputFor (big 3) 32 (1 ∷ []) (replicate 33 255) ≡ emptyBig ++ replicate 8 0 ++ (255 ∷ [])
+  pub big-30 : (out : List ℕ) → (answerFor (big 1) 32 (1 ∷ []) out ≡ NotWritten 30 0) × (answerFor (big 2) 32 (1 ∷ []) out ≡ NotWritten 30 0)
+  pub then-zeros-turned : outputFor (bigTurned 3) 32 (1 ∷ []) (replicate 33 255) ≡ emptyTurned 3 16 ++ replicate 8 0 ++ (255 ∷ [])
+  pub then-zeros-turned-2 : outputFor (bigTurned 2) 32 (1 ∷ []) (replicate 33 255) ≡ emptyTurned 2 16 ++ replicate 8 0 ++ (255 ∷ [])
+  pub then-zeros-turned-1 : outputFor (bigTurned 1) 32 (1 ∷ []) (replicate 33 255) ≡ emptyTurned 1 8 ++ replicate 16 0 ++ (255 ∷ [])
+  -- with alignment 64: 57 bytes, then 7 zeros
   pub alignment-64 : answerFor (little 3) 64 (1 ∷ []) (replicate 64 255) ≡ Written 57 64
   pub output-64 : outputFor (little 3) 64 (1 ∷ []) (replicate 65 255) ≡ aligned3 ++ replicate 7 0 ++ (255 ∷ [])
   -- the sheet of a and b becomes the files above
@@ -205,3 +250,4 @@ pub record Known : Type 0 where
   pub written-1 : answerFor (little 1) 32 sheetAB (replicate 96 255) ≡ Written 74 96
   pub output-3 : outputFor (little 3) 32 sheetAB (replicate 96 255) ≡ tensors3 ++ replicate 6 0
   pub output-1 : outputFor (little 1) 32 sheetAB (replicate 96 255) ≡ tensors1 ++ replicate 22 0
+  pub output-big : outputFor (big 3) 32 sheetAB (replicate 96 255) ≡ tensorsBig ++ replicate 6 0

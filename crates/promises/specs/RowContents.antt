@@ -53,6 +53,7 @@ abbrev pub headFor : Dialect → ℕ → List ℕ → ℕ → ℕ → Header
 headFor k a s end start = record {
   version = k .version;
   big = k .big;
+  turned = k .turned;
   entries = length (contentsFor a s .entries);
   tensors = length (contentsFor a s .tensors);
   alignment = a;

@@ -57,6 +57,7 @@ fn plain() -> Dialect {
     Dialect {
         version: 1,
         big: false,
+        turned: false,
     }
 }
 
@@ -389,6 +390,7 @@ fn same_header(
     let dialect = Dialect {
         version: header.version,
         big: header.big,
+        turned: header.turned,
     };
     let p = same_format(answer, at, header);
     let q = same_word(answer, same_word(answer, p, header.alignment), header.start);

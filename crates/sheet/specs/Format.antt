@@ -5,7 +5,7 @@
 -- well formed is refused; the sheet gives it as refusal 31 at the start of the entry, so that no
 -- number or place of a refusal inside an entry matters.
 use Prim.Native.Nat.{ℕ, zero, suc, _+_, _-_, _^_}
-use mathlib.Core.Bool.{Bool, true}
+use mathlib.Core.Bool.{Bool, true, false}
 use mathlib.Core.List.{List}
 use lib.Dec.{leb, ltb, eqb}
 use Rattle.reading.specs.Choice.{if_then_else_}
@@ -137,9 +137,9 @@ entryBody e = do
 unfoldable pub metadata : Reading SheetEntry
 metadata = framed 1 entryBody
 
--- the byte order of the sheet's own numbers; its version does not matter
+-- the byte order of the sheet's own numbers; its version does not matter, and it has no magic
 abbrev pub bigEnd : Dialect
-bigEnd = record { version = 3; big = true }
+bigEnd = record { version = 3; big = true; turned = false }
 
 -- the count of dimensions, and four lengths
 unfoldable pub shape : Reading Shape

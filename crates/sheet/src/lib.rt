@@ -338,6 +338,7 @@ fn shape_at(s: &[u8], at: usize) -> ShapeFound
     let dialect = Dialect {
         version: 3,
         big: true,
+        turned: false,
     };
     let Number::Value { value: n, next: p } = fields::number_at(s, at, Width::One, true) else {
         return ShapeFound::Bad;

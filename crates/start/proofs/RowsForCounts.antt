@@ -22,4 +22,4 @@ sure-counts rooms k s p =
 
 pub sure-start : (rooms : Rooms) (s : List ℕ) (p : ℕ) → Sure s (start rooms) p (λ c q. Room rooms c)
 unfolding start
-sure-start rooms s p = sure-then whatever (λ big q u. sure-then whatever (λ k r v. sure-counts rooms k s r))
+sure-start rooms s p = sure-then whatever (λ turned q u. sure-then whatever (λ k r v. sure-counts rooms k s r))

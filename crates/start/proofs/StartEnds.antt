@@ -10,7 +10,7 @@ use Rattle.reading.proofs.SureLaws.{sure-then, sure-done, sure-refuse, sure-her
 use Rattle.fields.proofs.NumberFields.{number-told}
 use Rattle.values.specs.Format.{sizeWidth, size}
 use Rattle.values.specs.declared.Dialect.{Dialect}
-use Rattle.start.specs.Format.{littleMagic, bigMagic, olderMagic, magic, knownVersion, version, counts, start}
+use Rattle.start.specs.Format.{littleMagic, bigMagic, olderMagic, magic, knownDialect, dialectBy, version, counts, start}
 use Rattle.start.specs.declared.Rooms.{Rooms}
 
 -- the place after the magic, the version and the two counts
@@ -18,23 +18,24 @@ abbrev pub begins : Dialect → ℕ
 begins k = 8 + sizeWidth k + sizeWidth k
 
 module _ (s : List ℕ) where
-  magic-ends : Sure s magic 0 (λ big q. q ≡ 4)
+  magic-ends : Sure s magic 0 (λ turned q. q ≡ 4)
   unfolding magic
   magic-ends =
       sure-here _ (sure-then (number-told s 4 false 0) (λ m q h.
       sure-if (eqb m littleMagic) _ _ (λ e. sure-done (h .0)) (λ e. sure-if (eqb m bigMagic) _ _ (λ f. sure-done (h .0))
       (λ f. sure-if (olderMagic m) _ _ (λ g. sure-refuse) (λ g. sure-refuse)))))
 
-  version-ends : (big : Bool) (p : ℕ) → Sure s (version big) p (λ k q. q ≡ p + 4)
+  version-ends : (turned : Bool) (p : ℕ) → Sure s (version turned) p (λ k q. q ≡ p + 4)
   unfolding version
-  version-ends big p =
-      sure-here _ (sure-then (number-told s 4 big p) (λ v q h. sure-check (knownVersion v) 4 p _ (λ e. sure-mark aVersion v p _ (sure-done (h .0)))))
+  version-ends turned p =
+      sure-here _ (sure-then (number-told s 4 turned p) (λ v q h.
+      sure-check (knownDialect (dialectBy turned v)) 4 p _ (λ e. sure-mark aVersion (dialectBy turned v .version) p _ (sure-done (h .0)))))
 
   size-ends : (k : Dialect) (p : ℕ) → Sure s (size k) p (λ n q. q ≡ p + sizeWidth k)
   unfolding size
   size-ends k p = sure-so (number-told s _ _ p) (λ n q h. h .0)
 
-  counts-end : (rooms : Rooms) (k : Dialect) (p : ℕ) → Sure s (counts rooms k) p (λ c q. (c .dialect ≡ k) × (q ≡ p + sizeWidth k + sizeWidth k))
+  pub counts-end : (rooms : Rooms) (k : Dialect) (p : ℕ) → Sure s (counts rooms k) p (λ c q. (c .dialect ≡ k) × (q ≡ p + sizeWidth k + sizeWidth k))
   unfolding counts
   counts-end rooms k p =
       sure-here _ (sure-then (size-ends k p) (λ n q h. sure-here _ (sure-then (size-ends k q) (λ m r g.
@@ -43,7 +44,7 @@ module _ (s : List ℕ) where
   pub start-ends : (rooms : Rooms) → Sure s (start rooms) 0 (λ c q. q ≡ begins (c .dialect))
   unfolding start
   start-ends rooms =
-      sure-then magic-ends (λ big q h. sure-then (version-ends big q) (λ k r g.
+      sure-then magic-ends (λ turned q h. sure-then (version-ends turned q) (λ k r g.
       record {
         holds = λ c o e.
             let i = counts-end rooms k r .holds c o e in

@@ -6,13 +6,13 @@ use mathlib.Core.List.{List}
 use mathlib.Core.Bool.{Bool, true, false}
 use native.Mathlib.Omega.{arith}
 use lib.Dec.{leb, eqb}
-use borrow.Author.Tests.{leb-true, le-leb}
+use borrow.Author.Tests.{eqb-true, leb-true, le-leb}
 use Rattle.reading.specs.Ceilings.{Low, under}
 use Rattle.reading.specs.Choice.{if_then_else_}
 use Rattle.reading.specs.Reading.{aVersion, run}
 use Rattle.reading.proofs.CeilingLaws.{low-run, low-bind, low-done, low-here, low-mark, low-checked, low-refuse, low-if}
 use Rattle.fields.proofs.NumberFields.{low-number}
-use Rattle.start.specs.Format.{knownVersion, version, start, littleMagic, bigMagic, olderMagic, magic, counts}
+use Rattle.start.specs.Format.{knownVersion, knownDialect, dialectBy, version, start, littleMagic, bigMagic, olderMagic, magic, counts}
 use Rattle.start.specs.declared.Rooms.{Rooms}
 use Rattle.reading.specs.declared.Limits.{Limits}
 use Rattle.values.specs.Format.{size}
@@ -25,6 +25,16 @@ version-small v e = by (eqb v 0) e
     by : (b : Bool) → (if b then false else leb v 3) ≡ true → v ≤ 3
     by true e = let z : _≡_ {A = ℕ} 0 1 = cc in absurd (omega arith)
     by false e = leb-true v 3 e
+
+-- so is the version of a known form
+pub dialect-small : (k : Dialect) → knownDialect k ≡ true → k .version ≤ 3
+dialect-small k e = by (k .big) (k .turned) e
+  where
+    by : (big turned : Bool) → (if big then (if turned then knownVersion (k .version) else eqb (k .version) 3) else if turned then false else knownVersion (k .version)) ≡ true → k .version ≤ 3
+    by true true e = version-small (k .version) e
+    by true false e = omega (arith, eqb-true (k .version) 3 e)
+    by false true e = let z : _≡_ {A = ℕ} 0 1 = cc in absurd (omega arith)
+    by false false e = version-small (k .version) e
 
 module _ (l : Limits) where
   pub low-magic : Low l magic
@@ -51,12 +61,12 @@ module _ (l : Limits) where
   under-counts rooms k s p = low-run l (counts rooms k) (low-counts rooms k) s p
 
 module _ (l : Limits) (versions : 3 ≤ l .versions) where
-  low-version : (big : Bool) → Low l (version big)
+  low-version : (turned : Bool) → Low l (version turned)
   unfolding version
-  low-version big =
-      low-bind l _ _ (low-here l) (λ p. low-bind l _ _ (low-number l 4 big) (λ v. low-checked l (knownVersion v) 4 p _ (λ e.
-      low-bind l _ _ (low-mark l aVersion v p (le-leb v (l .versions) (omega (arith, version-small v e)))) (λ u. low-done l _))))
+  low-version turned =
+      low-bind l _ _ (low-here l) (λ p. low-bind l _ _ (low-number l 4 turned) (λ v. low-checked l (knownDialect (dialectBy turned v)) 4 p _ (λ e.
+      low-bind l _ _ (low-mark l aVersion (dialectBy turned v .version) p (le-leb _ (l .versions) (omega (arith, dialect-small (dialectBy turned v) e)))) (λ u. low-done l _))))
 
   pub low-start : (rooms : Rooms) → Low l (start rooms)
   unfolding start
-  low-start rooms = low-bind l _ _ (low-magic l) (λ big. low-bind l _ _ (low-version big) (low-counts l rooms))
+  low-start rooms = low-bind l _ _ (low-magic l) (λ turned. low-bind l _ _ (low-version turned) (low-counts l rooms))

@@ -16,7 +16,7 @@ use Rattle.fields.proofs.NumberFields.{refuses-number}
 use Rattle.values.specs.Format.{size}
 use Rattle.values.specs.declared.Dialect.{Dialect}
 use Rattle.values.proofs.ValueRefusals.{refuses-size}
-use Rattle.start.specs.Format.{littleMagic, bigMagic, olderMagic, magic, knownVersion, version, counts, start}
+use Rattle.start.specs.Format.{littleMagic, bigMagic, olderMagic, magic, knownDialect, dialectBy, version, counts, start}
 use Rattle.start.specs.declared.Rooms.{Rooms}
 
 -- those of what stands before the counts, and of a count that is not there: a magic that is none or
@@ -34,10 +34,10 @@ module _ {l : Limits} {s : List ℕ} where
       refuses-here _ (λ p low. refuses-then (refuses-number _ _ missing) (λ m. refuses-if (eqb m littleMagic) refuses-done (refuses-if (eqb m bigMagic) refuses-done
       (refuses-if (olderMagic m) (refuses-refuse (record { listed = refl; inside = low })) (refuses-refuse (record { listed = refl; inside = low }))))))
 
-  refuses-version : (big : Bool) → Refuses l s (OneOf versionRefusals s) (version big)
+  refuses-version : (turned : Bool) → Refuses l s (OneOf versionRefusals s) (version turned)
   unfolding version
-  refuses-version big =
-      refuses-here _ (λ p low. refuses-then (refuses-number _ _ missing) (λ v. refuses-then (refuses-check (knownVersion v) 4 p (λ e. record { listed = refl; inside = low })) (λ u.
+  refuses-version turned =
+      refuses-here _ (λ p low. refuses-then (refuses-number _ _ missing) (λ v. refuses-then (refuses-check (knownDialect (dialectBy turned v)) 4 p (λ e. record { listed = refl; inside = low })) (λ u.
       refuses-then (refuses-mark (record { listed = refl; inside = low })) (λ w. refuses-done))))
 
 -- refusal 6 is as P says wherever a count that is read is above its rows
@@ -56,5 +56,5 @@ module _ {l : Limits} {s : List ℕ} {P : ℕ → ℕ → Type 0} (given : (n q 
   pub refuses-start : Refuses l s P (start rooms)
   unfolding start
   refuses-start =
-      refuses-then (refuses-so refuses-magic (λ n q h. given n q (h .listed) (h .inside))) (λ big.
-      refuses-then (refuses-so (refuses-version big) (λ n q h. given n q (h .listed) (h .inside))) refuses-counts)
+      refuses-then (refuses-so refuses-magic (λ n q h. given n q (h .listed) (h .inside))) (λ turned.
+      refuses-then (refuses-so (refuses-version turned) (λ n q h. given n q (h .listed) (h .inside))) refuses-counts)

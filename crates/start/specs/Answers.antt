@@ -11,9 +11,9 @@ use Rattle.start.specs.declared.Start.{Start}
 use Rattle.start.specs.declared.StartRead.{StartRead}
 use Rattle.start.specs.declared.StartRead.the-variants.{Found as FoundStart, Refused as NoStart}
 
--- a byte order
+-- whether the magic is turned round
 abbrev pub asMagic : MagicRead → Answer Bool
-asMagic (FoundMagic b q) = accepted b q
+asMagic (FoundMagic t q) = accepted t q
 asMagic (NoMagic n p) = refused n p
 
 -- a version in its byte order

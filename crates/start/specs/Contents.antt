@@ -8,8 +8,8 @@ use Rattle.start.specs.Format.{littleMagic}
 
 -- The bytes.
 
--- what stands before the first record; a file of the other byte order has its magic the other way
--- round
+-- what stands before the first record: the magic as it is or turned round, and then the version and
+-- the two counts
 unfoldable pub startBytes : Start → List ℕ
 startBytes c =
-    bytesOf (c .dialect .big) 4 littleMagic ++ bytesOf (c .dialect .big) 4 (c .dialect .version) ++ sizeBytes (c .dialect) (c .tensors) ++ sizeBytes (c .dialect) (c .entries)
+    bytesOf (c .dialect .turned) 4 littleMagic ++ bytesOf (c .dialect .big) 4 (c .dialect .version) ++ sizeBytes (c .dialect) (c .tensors) ++ sizeBytes (c .dialect) (c .entries)

@@ -3,8 +3,7 @@
 --    2  the magic of an older format, at 0
 --    3  any other magic that is not this one's, at 0
 --    4  a version other than 1, 2 and 3, at the version; `mark` says that one was found known (5
---       above
---       a reader's ceiling)
+--       above a reader's ceiling)
 --    6  more tensors, or more entries, than rows, at that count, once both are read
 use Prim.Native.Nat.{ℕ}
 use mathlib.Core.Bool.{Bool, true, false}
@@ -22,7 +21,7 @@ use Rattle.start.specs.declared.Start.{Start}
 abbrev pub littleMagic : ℕ
 littleMagic = 0x46554747
 
--- the same bytes the other way round: all numbers of the file are too
+-- the same bytes turned round: all numbers of the file are too
 abbrev pub bigMagic : ℕ
 bigMagic = 0x47475546
 
@@ -30,7 +29,7 @@ bigMagic = 0x47475546
 abbrev pub olderMagic : ℕ → Bool
 olderMagic m = if eqb m 0x67676d6c then true else if eqb m 0x67676d66 then true else if eqb m 0x67676a74 then true else eqb m 0x67676c61
 
--- the magic: whether the file is big-endian
+-- the magic: whether its bytes are turned round
 unfoldable pub magic : Reading Bool
 magic = do
   p ← here
@@ -44,14 +43,34 @@ magic = do
 abbrev pub knownVersion : ℕ → Bool
 knownVersion v = if eqb v 0 then false else leb v 3
 
--- the version, in the byte order of the magic
+-- the forms that a file can have: little-endian, and big-endian with the magic turned round too, in
+-- versions 1 to 3; big-endian behind a magic that is not turned round in version 3 alone
+abbrev pub knownDialect : Dialect → Bool
+knownDialect k =
+    if k .big then (if k .turned then knownVersion (k .version) else eqb (k .version) 3)
+    else if k .turned then false
+    else knownVersion (k .version)
+
+-- version 3 in four big-endian bytes, read as a little-endian number
+abbrev pub turnedThree : ℕ
+turnedThree = 0x03000000
+
+-- what a version's four bytes say, read in the byte order of the magic: behind a magic that is not
+-- turned round they may be a big-endian 3, and then all numbers after it are big-endian too
+abbrev pub dialectBy : Bool → ℕ → Dialect
+dialectBy turned v =
+    if turned then record { version = v; big = true; turned = true }
+    else if eqb v turnedThree then record { version = 3; big = true; turned = false }
+    else record { version = v; big = false; turned = false }
+
+-- the version, and with it the byte order of all that follows
 unfoldable pub version : Bool → Reading Dialect
-version big = do
+version turned = do
   p ← here
-  v ← number 4 big
-  check (knownVersion v) 4 p
-  mark aVersion v p
-  done (record { version = v; big = big })
+  v ← number 4 turned
+  check (knownDialect (dialectBy turned v)) 4 p
+  mark aVersion (dialectBy turned v .version) p
+  done (dialectBy turned v)
 
 -- rows for any count that 64 bits hold, so that none is refused because there are too few
 abbrev pub enough : Rooms
@@ -71,6 +90,6 @@ counts rooms k = do
 -- all that stands before the first record
 unfoldable pub start : Rooms → Reading Start
 start rooms = do
-  big ← magic
-  k ← version big
+  turned ← magic
+  k ← version turned
   counts rooms k

@@ -18,7 +18,7 @@ pub struct Rooms {
 }
 
 pub enum MagicRead {
-    Found { big: bool, next: usize },
+    Found { turned: bool, next: usize },
     Refused { why: u64, place: usize },
 }
 
@@ -49,7 +49,7 @@ fn is_older(magic: u64) -> bool
     }
 }
 
-// The magic: whether the file is big-endian.
+// The magic: whether its bytes are turned round.
 fn read_magic(s: &[u8]) -> MagicRead
     ensures { λ r. ⌜ asMagic r ≡ run format.magic (now (s .entry)) 0 ⌝ }
 {
@@ -57,10 +57,13 @@ fn read_magic(s: &[u8]) -> MagicRead
         return MagicRead::Refused { why: 1, place: 0 };
     };
     if value == 0x46554747 {
-        return MagicRead::Found { big: false, next };
+        return MagicRead::Found {
+            turned: false,
+            next,
+        };
     }
     if value == 0x47475546 {
-        return MagicRead::Found { big: true, next };
+        return MagicRead::Found { turned: true, next };
     }
     if is_older(value) {
         return MagicRead::Refused { why: 2, place: 0 };
@@ -68,29 +71,73 @@ fn read_magic(s: &[u8]) -> MagicRead
     MagicRead::Refused { why: 3, place: 0 }
 }
 
-// The version, where it is not above the reader's ceiling.
-fn read_version(s: &[u8], at: usize, big: bool, limits: Limits) -> VersionRead
-    ensures { λ r. ⌜ asVersion r ≡ run (under limits (format.version big)) (now (s .entry)) at ⌝ }
+// Versions 1 to 3.
+fn is_version(version: u64) -> bool
+    ensures { λ r. ⌜ r ≡ format.knownVersion version ⌝ }
 {
-    let Number::Value { value, next } = fields::number_at(s, at, Width::Four, big) else {
+    if version == 0 {
+        return false;
+    }
+    version <= 3
+}
+
+// Whether a file can have this form: the big-endian one behind a magic that is not turned round is
+// there in version 3 alone.
+pub fn is_known(dialect: Dialect) -> bool
+    ensures { λ r. ⌜ r ≡ format.knownDialect dialect ⌝ }
+{
+    if dialect.big {
+        if dialect.turned {
+            return is_version(dialect.version);
+        }
+        return dialect.version == 3;
+    }
+    if dialect.turned {
+        return false;
+    }
+    is_version(dialect.version)
+}
+
+// What a version's number says, read in the byte order of the magic.
+fn dialect_by(turned: bool, version: u64) -> Dialect
+    ensures { λ r. ⌜ r ≡ format.dialectBy turned version ⌝ }
+{
+    if turned {
+        return Dialect {
+            version,
+            big: true,
+            turned: true,
+        };
+    }
+    if version == 0x03000000 {
+        return Dialect {
+            version: 3,
+            big: true,
+            turned: false,
+        };
+    }
+    Dialect {
+        version,
+        big: false,
+        turned: false,
+    }
+}
+
+// The version and the byte order, where the version is not above the reader's ceiling.
+fn read_version(s: &[u8], at: usize, turned: bool, limits: Limits) -> VersionRead
+    ensures { λ r. ⌜ asVersion r ≡ run (under limits (format.version turned)) (now (s .entry)) at ⌝ }
+{
+    let Number::Value { value, next } = fields::number_at(s, at, Width::Four, turned) else {
         return VersionRead::Refused { why: 1, place: at };
     };
-    if value == 0 {
+    let dialect = dialect_by(turned, value);
+    if !is_known(dialect) {
         return VersionRead::Refused { why: 4, place: at };
     }
-    if 3 < value {
-        return VersionRead::Refused { why: 4, place: at };
-    }
-    if limits.versions < value {
+    if limits.versions < dialect.version {
         return VersionRead::Refused { why: 5, place: at };
     }
-    VersionRead::Found {
-        dialect: Dialect {
-            version: value,
-            big,
-        },
-        next,
-    }
+    VersionRead::Found { dialect, next }
 }
 
 // The two counts, where there are rows for as many.
@@ -133,7 +180,7 @@ pub fn read_start(s: &[u8], limits: Limits, rooms: Rooms) -> StartRead
 {
     match read_magic(s) {
         MagicRead::Refused { why, place } => StartRead::Refused { why, place },
-        MagicRead::Found { big, next: p } => match read_version(s, p, big, limits) {
+        MagicRead::Found { turned, next: p } => match read_version(s, p, turned, limits) {
             VersionRead::Refused { why, place } => StartRead::Refused { why, place },
             VersionRead::Found { dialect, next } => read_counts(s, next, dialect, rooms),
         },

@@ -119,7 +119,7 @@ module _ (l : Limits) (s : List ℕ) where
   sure-limited m f {p} first rest = record { holds = λ b r e. sure-then first rest .holds b r (e ∙ ap (λ x. run x s p) (under-bind l m f)) }
 
   -- all that stands before the first record, where there are rows for as many as it counts
-  start-read : (rooms : Rooms) (p : ℕ) {big : Bool} {q : ℕ} {k : Dialect} {r : ℕ} {c : Start} {u : ℕ} → accepted big q ≡ run (under l magic) s p → accepted k r ≡ run (under l (version big)) s q
+  start-read : (rooms : Rooms) (p : ℕ) {turned : Bool} {q : ℕ} {k : Dialect} {r : ℕ} {c : Start} {u : ℕ} → accepted turned q ≡ run (under l magic) s p → accepted k r ≡ run (under l (version turned)) s q
       → accepted c u ≡ run (counts rooms k) s r → accepted c u ≡ run (under l (start rooms)) s p
   unfolding start andThen
   start-read rooms p {k = k} {r} e f g = g ∙ rw (run-under l, ← e, run-under l, ← f, under-counts l rooms k s r) refl
@@ -127,7 +127,7 @@ module _ (l : Limits) (s : List ℕ) where
   sure-start : (rooms : Rooms) → Sure s (under l (start enough)) 0 (λ c u. Room rooms c → accepted c u ≡ run (under l (start rooms)) s 0)
   unfolding start
   sure-start rooms =
-      sure-limited magic _ (sure-run whatever) (λ big q e. sure-limited (version big) _ (sure-run whatever) (λ k r f. record {
+      sure-limited magic _ (sure-run whatever) (λ turned q e. sure-limited (version turned) _ (sure-run whatever) (λ k r f. record {
         holds = λ c u g room. start-read rooms 0 (e .1) (f .1) (sure-counts rooms k s r .holds c u (g ∙ under-counts l enough k s r) room);
       }))
 

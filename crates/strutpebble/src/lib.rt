@@ -143,14 +143,15 @@ pub extern "C" fn sp_file_type(prefix: &[u8], answer: &mut [u64; 8]) -> u64
     words::type_number(read)
 }
 
-// How a file is written: its version, and whether it is big-endian, which any number but 0
-// says.
-fn dialect_of(version: u32, big: u32) -> Dialect
-    ensures { λ r. ⌜ r ≡ dialectOf version big ⌝ }
+// How a file is written: its version, and its byte order by number, in which any but 0 is big-endian
+// and 2 turns the magic round too.
+fn dialect_of(version: u32, order: u32) -> Dialect
+    ensures { λ r. ⌜ r ≡ dialectOf version order ⌝ }
 {
     Dialect {
         version: version as u64,
-        big: 0 < big,
+        big: 0 < order,
+        turned: order == 2,
     }
 }
 
@@ -161,16 +162,16 @@ fn dialect_of(version: u32, big: u32) -> Dialect
 pub extern "C" fn sp_write(
     sheet: &[u8],
     version: u32,
-    big: u32,
+    order: u32,
     alignment: u64,
     out: &mut [u8],
     answer: &mut [u64; 8],
 ) -> u64
-    ensures { λ r. ⌜ r ≡ writtenNumber (writtenOf (planFor (dialectOf version big) alignment (length (now (out .entry))) (now (sheet .entry)))) ⌝ }
-    ensures { λ r. ⌜ now (answer .exit) ≡ writtenWords (writtenOf (planFor (dialectOf version big) alignment (length (now (out .entry))) (now (sheet .entry)))) ⌝ }
-    ensures { λ r. ⌜ now (out .exit) ≡ leftBy (planFor (dialectOf version big) alignment (length (now (out .entry))) (now (sheet .entry))) (headerFor (dialectOf version big) alignment (now (sheet .entry))) (now (out .entry)) ⌝ }
+    ensures { λ r. ⌜ r ≡ writtenNumber (writtenOf (planFor (dialectOf version order) alignment (length (now (out .entry))) (now (sheet .entry)))) ⌝ }
+    ensures { λ r. ⌜ now (answer .exit) ≡ writtenWords (writtenOf (planFor (dialectOf version order) alignment (length (now (out .entry))) (now (sheet .entry)))) ⌝ }
+    ensures { λ r. ⌜ now (out .exit) ≡ leftBy (planFor (dialectOf version order) alignment (length (now (out .entry))) (now (sheet .entry))) (headerFor (dialectOf version order) alignment (now (sheet .entry))) (now (out .entry)) ⌝ }
 {
-    let dialect = dialect_of(version, big);
+    let dialect = dialect_of(version, order);
     let written = writer::write_header(sheet, dialect, alignment, out);
     *answer = words::written_words(written);
     words::written_number(written)

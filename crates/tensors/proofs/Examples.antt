@@ -12,7 +12,7 @@ use Rattle.kinds.specs.Table.{blockOf}
 
 -- a big-endian file of version 1
 abbrev one-big : Dialect
-one-big = record { version = 1; big = true }
+one-big = record { version = 1; big = true; turned = true }
 
 -- the tensor "b" of kind 1 and length 3, at offset 32: six bytes of data
 abbrev tensor-b : List ℕ

@@ -85,7 +85,7 @@ name-ends k s p {a} {q} e = sure-name k s p .holds a q e .ends
 
 -- the length i, where those before it end at p
 sure-length : (s : List ℕ) (big : Bool) (n from i : ℕ) {p : ℕ} → p ≡ from + 8 * min i n → p ≤ length s
-    → Sure s (lengthAt (inOrder big) n i) p (λ v q. (v ≡ lengthIn s from big n i) × (q ≡ from + 8 * min (i + 1) n) × (q ≤ length s))
+    → Sure s (lengthAt (inOrder 3 big) n i) p (λ v q. (v ≡ lengthIn s from big n i) × (q ≡ from + 8 * min (i + 1) n) × (q ≤ length s))
 unfolding lengthAt
 sure-length s big n from i {p} at within =
     sure-if (ltb i n) _ _
@@ -97,7 +97,7 @@ sure-length s big n from i {p} at within =
     let past : n ≤ i = ltb-false i n e in
     sure-done (rw e refl, omega arith, within))
 
-sure-lengths : (s : List ℕ) (big : Bool) (n from : ℕ) → n ≤ 4 → from ≤ length s → Sure s (lengthsOf (inOrder big) n) from (λ x q. (x ≡ shapeIn s from big n) × (q ≡ from + 8 * n) × (q ≤ length s))
+sure-lengths : (s : List ℕ) (big : Bool) (n from : ℕ) → n ≤ 4 → from ≤ length s → Sure s (lengthsOf (inOrder 3 big) n) from (λ x q. (x ≡ shapeIn s from big n) × (q ≡ from + 8 * n) × (q ≤ length s))
 unfolding lengthsOf
 sure-lengths s big n from few within =
     sure-then (sure-length s big n from 0 (omega arith) within) (λ a p f. sure-then (sure-length s big n from 1 (f .1) (f .2)) (λ b q g.
@@ -110,7 +110,7 @@ record Shaped (s : List ℕ) (p : ℕ) (big : Bool) (n : ℕ) (x : Shape) (q : �
   is : x ≡ shapeIn s (p + 4) big n
   after : q ≡ p + 4 + 8 * n
 
-sure-shape : (s : List ℕ) (p : ℕ) (big : Bool) → Sure s (shape (inOrder big)) p (λ x q. Shaped s p big (value big (take 4 (drop p s))) x q)
+sure-shape : (s : List ℕ) (p : ℕ) (big : Bool) → Sure s (shape (inOrder 3 big)) p (λ x q. Shaped s p big (value big (take 4 (drop p s))) x q)
 unfolding shape
 sure-shape s p big =
     sure-here _ (sure-then (sure-there s 4 big p) (λ n q h. sure-check (leb n 4) 10 p _ (λ e.
@@ -124,7 +124,7 @@ record Kept (s : List ℕ) (p : ℕ) (big : Bool) (y : KindAndOffset) (q : ℕ) 
   offset : y .offset ≡ value big (take 8 (drop (p + 4) s))
   after : q ≡ p + 12
 
-sure-stored : (s : List ℕ) (p : ℕ) (big : Bool) → Sure s (kindAndOffset (inOrder big)) p (λ y q. Kept s p big y q)
+sure-stored : (s : List ℕ) (p : ℕ) (big : Bool) → Sure s (kindAndOffset (inOrder 3 big)) p (λ y q. Kept s p big y q)
 unfolding kindAndOffset
 sure-stored s p big =
     sure-here _ (sure-then (sure-there s 4 big p) (λ t q h. sure-then (sure-there s 8 big q) (λ o r g. sure-check (knownKind t) 11 p _ (λ e.
@@ -170,12 +170,17 @@ rest-there s p big all count =
 
 -- Tensors.
 
--- neither the shape nor the kind and the offset look at the version
-order-shape : (k : Dialect) → shape k ≡ shape (inOrder (k .big))
+-- a name does not look at the magic, and neither the shape nor the kind and the offset look at it or
+-- at the version
+pub order-text : (k : Dialect) → text k ≡ text (inOrder (k .version) (k .big))
+unfolding text textLooking size
+order-text k = refl
+
+order-shape : (k : Dialect) → shape k ≡ shape (inOrder 3 (k .big))
 unfolding shape lengthsOf lengthAt
 order-shape k = refl
 
-order-stored : (k : Dialect) → kindAndOffset k ≡ kindAndOffset (inOrder (k .big))
+order-stored : (k : Dialect) → kindAndOffset k ≡ kindAndOffset (inOrder 3 (k .big))
 unfolding kindAndOffset
 order-stored k = refl
 
@@ -196,7 +201,7 @@ rest-of : (k : Dialect) (s : List ℕ) (p : ℕ) {x : Shape} {q : ℕ} → accep
     → accepted (record { shape = x; kind = y .kind; offset = y .offset; next = r }) r ≡ run (afterName (k .big)) s p
 unfolding afterName here run _>>=_
 rest-of k s p {x} {q} e {y} {r} f =
-    sym (goes-on (shape (inOrder (k .big))) _ s p (e ∙ ap (λ m. run m s p) (order-shape k)) ∙ goes-on (kindAndOffset (inOrder (k .big))) _ s q (f ∙ ap (λ m. run m s q) (order-stored k)))
+    sym (goes-on (shape (inOrder 3 (k .big))) _ s p (e ∙ ap (λ m. run m s p) (order-shape k)) ∙ goes-on (kindAndOffset (inOrder 3 (k .big))) _ s q (f ∙ ap (λ m. run m s q) (order-stored k)))
 
 sure-parts : (k : Dialect) (s : List ℕ) (total p : ℕ) → Sure s (tensor k total) p (λ t q. Parts k s p t q)
 unfolding tensor

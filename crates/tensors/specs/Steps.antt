@@ -1,6 +1,6 @@
 -- What the steps that read a tensor again are held to. No contract of a step that tests cites it.
 use Prim.Native.Nat.{ℕ, _+_, _*_}
-use mathlib.Core.Bool.{Bool}
+use mathlib.Core.Bool.{Bool, false}
 use mathlib.Core.List.{List}
 use lib.Dec.{ltb}
 use lib.ListN.{take, drop}
@@ -24,15 +24,15 @@ abbrev pub shapeIn : List ℕ → ℕ → Bool → ℕ → Shape
 shapeIn s p big n =
     record { dimensions = n; first = lengthIn s p big n 0; second = lengthIn s p big n 1; third = lengthIn s p big n 2; fourth = lengthIn s p big n 3 }
 
--- a dialect of this byte order: what stands after a tensor's name is the same in each version
-abbrev pub inOrder : Bool → Dialect
-inOrder big = record { version = 3; big = big }
+-- a dialect of this version and byte order: no tensor depends on the magic
+abbrev pub inOrder : ℕ → Bool → Dialect
+inOrder version big = record { version = version; big = big; turned = false }
 
--- what stands after a tensor's name, and the place after it
+-- what stands after a tensor's name, which is the same in each version, and the place after it
 unfoldable pub afterName : Bool → Reading AfterName
 afterName big = do
-  x ← shape (inOrder big)
-  y ← kindAndOffset (inOrder big)
+  x ← shape (inOrder 3 big)
+  y ← kindAndOffset (inOrder 3 big)
   q ← here
   done (record { shape = x; kind = y .kind; offset = y .offset; next = q })
 

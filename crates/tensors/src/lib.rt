@@ -23,7 +23,7 @@ ghost use Rattle.reading.specs.Reading.{accepted, isAccepted, run};
 ghost use Rattle.tensors.specs.Answers.{asShape, asKindAndOffset, asTensor};
 ghost use Rattle.tensors.specs.Format.{lengths};
 ghost use Rattle.tensors.specs.Rows.{tensorRow};
-ghost use Rattle.tensors.specs.Steps.{lengthIn, afterName, shapeIn, tensorOf};
+ghost use Rattle.tensors.specs.Steps.{lengthIn, inOrder, afterName, shapeIn, tensorOf};
 ghost use Rattle.values.specs.Format.{text};
 ghost use Rattle.tensors.specs.Format as format;
 ghost use Rattle.tensors.specs.Rows as rows;
@@ -251,8 +251,8 @@ pub fn tensor_row(tensor: Tensor) -> TensorRow
 
 // The name of a tensor that is there.
 pub fn known_name(s: &[u8], at: usize, version: u64, big: bool) -> Span
-    requires { ⌜ isAccepted (run (text (record { version = version; big = big })) (now s) at) ≡ true ⌝ }
-    ensures { λ r. ⌜ accepted r (r .place + r .len) ≡ run (text (record { version = version; big = big })) (now (s .entry)) at ⌝ }
+    requires { ⌜ isAccepted (run (text (inOrder version big)) (now s) at) ≡ true ⌝ }
+    ensures { λ r. ⌜ accepted r (r .place + r .len) ≡ run (text (inOrder version big)) (now (s .entry)) at ⌝ }
 {
     if version == 1 {
         Span {

@@ -15,10 +15,10 @@ use Rattle.values.specs.declared.Value.the-variants.{Single, Array}
 
 -- a version 3 file, and a big-endian one of version 1
 abbrev three : Dialect
-three = record { version = 3; big = false }
+three = record { version = 3; big = false; turned = false }
 
 abbrev one-big : Dialect
-one-big = record { version = 1; big = true }
+one-big = record { version = 1; big = true; turned = true }
 
 -- "a" is the u32 7
 abbrev a-is-seven : List ℕ

@@ -20,10 +20,12 @@ ghost use Rattle.values.specs.Contents as contents;
 ghost use Rattle.values.specs.Format as format;
 ghost use Rattle.values.specs.Rows as rows;
 
-// What every record depends on: the file's version and byte order.
+// How a file is written: its version; whether its numbers are big-endian; and whether its magic is
+// turned round as well, as in one of the two big-endian forms. No record depends on that.
 pub struct Dialect {
     pub version: u64,
     pub big: bool,
+    pub turned: bool,
 }
 
 // Where the bytes of a text are.

@@ -1,7 +1,7 @@
 -- What the exported functions answer, as numbers: one that they return, and eight words.
 use Prim.Native.Nat.{ℕ}
 use mathlib.Core.List.{List, [], _∷_, _++_}
-use lib.Dec.{ltb}
+use lib.Dec.{ltb, eqb}
 use lib.ListN.{getD}
 use Rattle.reading.specs.Choice.{if_then_else_}
 use Rattle.reading.specs.Reading.{Answer, accepted, refused, run, seen}
@@ -38,10 +38,15 @@ abbrev pub numberOf : Answer Header → ℕ
 numberOf (accepted h q) = 0
 numberOf (refused n p) = n
 
--- version, byte order (1 for big-endian), entries, tensors, alignment, the header's end, the
+-- the byte order of a header: 0 for little-endian, 1 for big-endian, and 2 where the magic is turned
+-- round too
+abbrev pub byteOrder : Header → ℕ
+byteOrder h = if h .big then (if h .turned then 2 else 1) else 0
+
+-- version, byte order, entries, tensors, alignment, the header's end, the
 -- start of the data, 0; of a refusal its place
 abbrev pub wordsOf : Answer Header → List ℕ
-wordsOf (accepted h q) = h .version ∷ (if h .big then 1 else 0) ∷ h .entries ∷ h .tensors ∷ h .alignment ∷ h .end ∷ h .start ∷ 0 ∷ []
+wordsOf (accepted h q) = h .version ∷ byteOrder h ∷ h .entries ∷ h .tensors ∷ h .alignment ∷ h .end ∷ h .start ∷ 0 ∷ []
 wordsOf (refused n p) = oneWord p
 
 -- 0 where every tensor ends inside the file, and else the refusal's number
@@ -95,9 +100,10 @@ typeWords (Known n) = oneWord n
 typeWords Unknown = oneWord 0
 typeWords (NotRead n p) = oneWord p
 
--- a version, big-endian where the second number is not 0
+-- a version in the byte order of a number: little-endian for 0, big-endian with the magic turned
+-- round too for 2, and big-endian for any other
 abbrev pub dialectOf : ℕ → ℕ → Dialect
-dialectOf version big = record { version = version; big = ltb 0 big }
+dialectOf version order = record { version = version; big = ltb 0 order; turned = eqb order 2 }
 
 -- 0 where a header was written, and else the refusal's number
 abbrev pub writtenNumber : HeaderWritten → ℕ

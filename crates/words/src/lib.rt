@@ -1,4 +1,5 @@
 // The answers of the exported functions as numbers: one that is returned, and eight words.
+use header::Header;
 use header::HeaderRead;
 use lookup::FileTypeRead;
 use lookup::Lookup;
@@ -29,6 +30,17 @@ pub fn number_of(read: HeaderRead) -> u64
     }
 }
 
+// The number of a header's byte order: 2 where its magic is turned round too.
+fn byte_order(header: Header) -> u64
+    ensures { λ r. ⌜ r ≡ words.byteOrder header ⌝ }
+{
+    if header.big {
+        if header.turned { 2 } else { 1 }
+    } else {
+        0
+    }
+}
+
 // The words of an answer.
 pub fn words_of(read: HeaderRead) -> [u64; 8]
     ensures { λ r. ⌜ r ≡ words.wordsOf (asHeader read) ⌝ }
@@ -37,7 +49,7 @@ pub fn words_of(read: HeaderRead) -> [u64; 8]
         HeaderRead::Refused { why: _, place } => one_word(place as u64),
         HeaderRead::Found { header } => [
             header.version,
-            if header.big { 1 } else { 0 },
+            byte_order(header),
             header.entries,
             header.tensors,
             header.alignment,

@@ -22,7 +22,7 @@ use Rattle.values.specs.Contents.{entryBytes}
 use Rattle.tensors.specs.Contents.{tensorBytes}
 use Rattle.start.specs.Contents.{startBytes}
 use Rattle.header.specs.Contents.{startIn, headerBytes}
-use Rattle.start.specs.Format.{knownVersion}
+use Rattle.start.specs.Format.{knownDialect}
 use Rattle.sheet.specs.Format.{SheetEntry, SheetTensor, metadata, tensor}
 use Rattle.sheet.specs.Sheet.{Records, sheetOf}
 use Rattle.sheet.proofs.PartsFound.{entry-ends}
@@ -46,7 +46,7 @@ pub record PlannedBy (k : Dialect) (a room : ℕ) (s : List ℕ) (plan : Plan) :
   pub records : Records
   pub end : ℕ
   pub is : accepted records end ≡ sheetOf s
-  pub version : knownVersion (k .version) ≡ true
+  pub known : knownDialect k ≡ true
   pub aligned : isAlignment a ≡ true
   pub added : canAdd a (ownAlignment (records .entries)) ≡ true
   pub agreed : agrees a (ownAlignment (records .entries)) ≡ true
@@ -65,7 +65,7 @@ passed-laid Fits rest e = (refl, e)
 passed-laid (NotLaid w i) rest e = let z : _≡_ {A = ℕ} 0 1 = cc in absurd (omega arith)
 
 module _ (k : Dialect) (a room : ℕ) (s : List ℕ) {plan : Plan} where
-  by : knownVersion (k .version) ≡ true → (r : Answer Records) → r ≡ sheetOf s → Fine plan ≡ requireFormed r 31 (aligned k a room) → PlannedBy k a room s plan
+  by : knownDialect k ≡ true → (r : Answer Records) → r ≡ sheetOf s → Fine plan ≡ requireFormed r 31 (aligned k a room) → PlannedBy k a room s plan
   by v (refused n p) h e = let z : _≡_ {A = ℕ} 0 1 = cc in absurd (omega arith)
   by v (accepted c q) h e =
       let one = passed (isAlignment a) 32 0 _ e in
@@ -78,7 +78,7 @@ module _ (k : Dialect) (a room : ℕ) (s : List ℕ) {plan : Plan} where
         records = c;
         end = q;
         is = h;
-        version = v;
+        known = v;
         aligned = one .0;
         added = two .0;
         agreed = three .0;
@@ -90,7 +90,7 @@ module _ (k : Dialect) (a room : ℕ) (s : List ℕ) {plan : Plan} where
 
   pub planned-by : Fine plan ≡ planFor k a room s → PlannedBy k a room s plan
   unfolding planFor
-  planned-by e = let v = passed (knownVersion (k .version)) 30 0 _ e in by (v .0) (sheetOf s) refl (v .1)
+  planned-by e = let v = passed (knownDialect k) 30 0 _ e in by (v .0) (sheetOf s) refl (v .1)
 
 -- there are as many tensors in the header as in the sheet
 pub length-weights : (a : ℕ) (laid : Laid) (ts : List SheetTensor) → length (laidFrom a laid ts) ≡ length ts

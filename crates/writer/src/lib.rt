@@ -442,9 +442,9 @@ fn write_tensor_info_section(
 fn write_magic(out: &mut [u8], dialect: Dialect) -> usize
     requires { ⌜ 8 ≤ length (now out) ⌝ }
     ensures { λ r. ⌜ r ≡ 8 ⌝ }
-    ensures { λ r. ⌜ Wrote (bytesOf (dialect .big) 4 littleMagic ++ contents.typeBytes dialect (dialect .version)) (now (out .entry)) (now (out .exit)) r ⌝ }
+    ensures { λ r. ⌜ Wrote (bytesOf (dialect .turned) 4 littleMagic ++ contents.typeBytes dialect (dialect .version)) (now (out .entry)) (now (out .exit)) r ⌝ }
 {
-    let a = fields::put_number(out, 0x46554747, Width::Four, dialect.big);
+    let a = fields::put_number(out, 0x46554747, Width::Four, dialect.turned);
     a + write_type(&mut out[a..], dialect.version, dialect)
 }
 

@@ -1,7 +1,12 @@
 //! Files for tests, made field by field, and what tests ask of refusals.
 #![allow(dead_code)]
 
+use strutpebble::ByteOrder::{self, Big, BigMagic, Little};
 use strutpebble::{Place, Refusal};
+
+/// Every version and byte order that there is.
+pub const DIALECTS: [(u32, ByteOrder); 7] =
+    [(1, Little), (2, Little), (3, Little), (3, Big), (1, BigMagic), (2, BigMagic), (3, BigMagic)];
 
 /// The number of a reader's refusal, and its byte of the prefix.
 pub fn number_and_byte(refusal: Refusal) -> (u64, u64) {
@@ -29,13 +34,13 @@ pub const NO_BYTES: [u64; 6] = [31, 32, 33, 36, 37, 38];
 pub struct Made {
     pub bytes: Vec<u8>,
     version: u32,
-    big: bool,
+    order: ByteOrder,
 }
 
 /// The magic, the version and the two counts.
-pub fn made(version: u32, big: bool, tensors: u64, entries: u64) -> Made {
-    let magic: &[u8] = if big { b"FUGG" } else { b"GGUF" };
-    let mut made = Made { bytes: magic.to_vec(), version, big };
+pub fn made(version: u32, order: ByteOrder, tensors: u64, entries: u64) -> Made {
+    let magic = if order == BigMagic { b"FUGG" } else { b"GGUF" };
+    let mut made = Made { bytes: magic.to_vec(), version, order };
     made.number(4, version.into());
     made.size(tensors);
     made.size(entries);
@@ -45,10 +50,9 @@ pub fn made(version: u32, big: bool, tensors: u64, entries: u64) -> Made {
 impl Made {
     /// A number of so many bytes.
     pub fn number(&mut self, width: usize, value: u64) -> &mut Made {
-        if self.big {
-            self.bytes.extend(&value.to_be_bytes()[8 - width..]);
-        } else {
-            self.bytes.extend(&value.to_le_bytes()[..width]);
+        match self.order {
+            Little => self.bytes.extend(&value.to_le_bytes()[..width]),
+            Big | BigMagic => self.bytes.extend(&value.to_be_bytes()[8 - width..]),
         }
         self
     }
@@ -84,19 +88,19 @@ impl Made {
 }
 
 /// The tensors a (kind 0, length 5) and b (kind 1, length 3).
-pub fn a_and_b(version: u32, big: bool) -> Vec<u8> {
-    a_and_b_at(version, big, 0, 32)
+pub fn a_and_b(version: u32, order: ByteOrder) -> Vec<u8> {
+    a_and_b_at(version, order, 0, 32)
 }
 
 /// The same two at other offsets.
-pub fn a_and_b_at(version: u32, big: bool, a: u64, b: u64) -> Vec<u8> {
-    made(version, big, 2, 0).tensor("a", &[5], 0, a).tensor("b", &[3], 1, b).bytes.clone()
+pub fn a_and_b_at(version: u32, order: ByteOrder, a: u64, b: u64) -> Vec<u8> {
+    made(version, order, 2, 0).tensor("a", &[5], 0, a).tensor("b", &[3], 1, b).bytes.clone()
 }
 
 /// A header of so many of the shortest records: keys and names of no bytes, values of one byte, and
 /// tensors of no dimension.
-pub fn shortest(version: u32, big: bool, tensors: u64, entries: u64) -> Vec<u8> {
-    let mut file = made(version, big, tensors, entries);
+pub fn shortest(version: u32, order: ByteOrder, tensors: u64, entries: u64) -> Vec<u8> {
+    let mut file = made(version, order, tensors, entries);
     for _ in 0..entries {
         file.key("", 0).number(1, 5);
     }

@@ -16,8 +16,8 @@ use Rattle.tensors.specs.Format.{tensor, totalOf}
 use Rattle.tensors.specs.Rows.{tensorRow}
 use Rattle.values.specs.declared.Dialect.{Dialect}
 use Rattle.values.specs.Format.{text}
-use Rattle.tensors.specs.Steps.{afterName}
-use Rattle.tensors.proofs.ReadAgain.{Found, name-ends, next-name, next-rest, found-again}
+use Rattle.tensors.specs.Steps.{inOrder, afterName}
+use Rattle.tensors.proofs.ReadAgain.{Found, order-text, name-ends, next-name, next-rest, found-again}
 use Rattle.header.proofs.fill_tensors.Statement.{statement}
 use Rattle.header.proofs.fill_tensors.Tie as tie
 
@@ -38,8 +38,8 @@ loop-holds : tie.Need-loop-holds Inv-loop μ-loop
 loop-holds c = record { low = omega arith; long = refl; total = 0; all = rw sub-zero (c .before .pre .1); left = rw sub-zero }
 
 -- a text in a dialect is one in its version and its order
-in-order : (d : Dialect) {big : Bool} (s : List ℕ) (p : ℕ) → d .big ≡ big → run (text (record { version = d .version; big = big })) s p ≡ run (text d) s p
-in-order d s p e = ap (λ big. run (text (record { version = d .version; big = big })) s p) (sym e)
+in-order : (d : Dialect) {big : Bool} (s : List ℕ) (p : ℕ) → d .big ≡ big → run (text (inOrder (d .version) big)) s p ≡ run (text d) s p
+in-order d s p e = ap (λ big. run (text (inOrder (d .version) big)) s p) (sym e) ∙ ap (λ m. run m s p) (sym (order-text d))
 
 -- the name of the next tensor is there
 name-there : (c : tie.In-loop Inv-loop μ-loop) →

@@ -1,5 +1,4 @@
--- `values::is_alignment_key` meets its contract: its two tests are the definition's. Assumes
--- nothing.
+-- `header::is_alignment` meets its contract: its two tests are the definition's. Assumes nothing.
 use borrow.Author.Tests.{eq-eqb, ne-eqb}
 use Rattle.header.proofs.is_alignment.Statement.{statement}
 use Rattle.header.proofs.is_alignment.Tie as tie

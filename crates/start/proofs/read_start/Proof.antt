@@ -11,9 +11,9 @@ use Rattle.start.proofs.StartMarks.{under-magic, under-counts}
 use Rattle.start.proofs.read_start.Statement.{statement}
 use Rattle.start.proofs.read_start.Tie as tie
 
--- the byte order that was read
-ordered : (c : tie.After-big) → accepted (c .big .given .0 .0) (c .big .given .0 .1 .0) ≡ run magic (now (c .before .before .before .before .args .s)) 0
-ordered c = ap asMagic (sym (c .big .given .1)) ∙ c .before .before .read-magic .ensures
+-- the magic that was read
+ordered : (c : tie.After-turned) → accepted (c .turned .given .0 .0) (c .turned .given .0 .1 .0) ≡ run magic (now (c .before .before .before .before .args .s)) 0
+ordered c = ap asMagic (sym (c .turned .given .1)) ∙ c .before .before .read-magic .ensures
 
 returns : tie.Need-returns
 unfolding start andThen

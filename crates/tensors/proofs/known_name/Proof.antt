@@ -3,15 +3,16 @@
 use borrow.Author.Tests.{eq-eqb, ne-eqb}
 use native.Mathlib.Omega.{arith}
 use denote.Ref.{now}
+use Rattle.tensors.specs.Steps.{inOrder}
 use Rattle.tensors.proofs.ReadAgain.{NameThere, name-there}
 use Rattle.tensors.proofs.known_name.Statement.{statement}
 use Rattle.tensors.proofs.known_name.Tie as tie
 
 -- a size of 4 bytes, and one of 8
-four : (c : tie.Then1) → let a = c .before .before .args in NameThere (record { version = a .version; big = a .big }) (now (a .s)) (a .at) 4
+four : (c : tie.Then1) → let a = c .before .before .args in NameThere (inOrder (a .version) (a .big)) (now (a .s)) (a .at) 4
 four c = name-there _ _ _ (c .before .before .pre) (rw (eq-eqb _ _ (c .if1 .taken)))
 
-eight : (c : tie.Else1) → let a = c .before .before .args in NameThere (record { version = a .version; big = a .big }) (now (a .s)) (a .at) 8
+eight : (c : tie.Else1) → let a = c .before .before .args in NameThere (inOrder (a .version) (a .big)) (now (a .s)) (a .at) 8
 eight c = name-there _ _ _ (c .before .before .pre) (rw (ne-eqb _ _ (c .if1 .left)))
 
 returns : tie.Need-returns
