@@ -1,14 +1,15 @@
 -- The last tests of a header, as one step: whoever walks through a header's program takes them from
 -- here, and does not see which they are. Assumes nothing.
 use Prim.Native.Nat.{ℕ, _≤_, _<_}
-use mathlib.Core.Path.{_≡_, sym, subst}
+use mathlib.Core.Path.{_≡_, sym, ap, subst}
 use mathlib.Core.List.{List}
 use mathlib.Core.Bool.{true}
 use lib.Dec.{leb}
 use borrow.Author.Tests.{leb-true, leb-false}
 use Rattle.reading.specs.Back.{All, Sure}
-use Rattle.reading.specs.Ceilings.{Low}
-use Rattle.reading.specs.Each.{fold}
+use Rattle.reading.specs.Ceilings.{Low, under}
+use Rattle.reading.specs.Each.{checkEach, fold}
+use Rattle.reading.specs.Reading.{accepted, run, seen, check}
 use Rattle.reading.specs.Refusals.{Refuses}
 use Rattle.reading.specs.declared.Limits.{Limits}
 use Rattle.reading.proofs.CeilingLaws.{low-bind, low-checked, low-done}
@@ -16,6 +17,7 @@ use Rattle.reading.proofs.EachChecked.{sure-check-each, low-check-each, refuses
 use Rattle.reading.proofs.Onward.{all-so}
 use Rattle.reading.proofs.RefusalLaws.{refuses-then, refuses-done, refuses-check}
 use Rattle.reading.proofs.SureLaws.{sure-then, sure-done, sure-check}
+use Rattle.reading.proofs.Views.{bind-same}
 use Rattle.kinds.specs.Shape.{greatest}
 use Rattle.layout.specs.Padding.{padded}
 use Rattle.values.specs.declared.Entry.{Entry}
@@ -51,3 +53,10 @@ module _ (c : Start) (es : List Entry) (ts : List Tensor) (e : ℕ) where
   refuses-judged {P = P} overflowing misaligned =
       refuses-then (refuses-check (leb (padded (fold latest 32 es) e) greatest) 18 e (λ f. overflowing (leb-false _ _ f))) (λ u.
       refuses-then (refuses-check-each (isAligned (fold latest 32 es)) 16 offsetPlace ts (all-so (λ t h f. h) ts misaligned)) (λ v. refuses-done))
+
+-- of two starts they show the same, where a view of the headers does
+pub seen-judged : {C : Type 0} (view : FullHeader → C) (c c′ : Start) (es : List Entry) (ts : List Tensor) (e : ℕ) → view (headerWith c es ts e) ≡ view (headerWith c′ es ts e)
+    → (l : Limits) (s : List ℕ) (p : ℕ) → seen view (run (under l (judged c es ts e)) s p) ≡ seen view (run (under l (judged c′ es ts e)) s p)
+unfolding under run seen
+seen-judged view c c′ es ts e same l s p =
+    bind-same view (check (leb (padded (fold latest 32 es) e) greatest) 18 e) s p l _ _ (λ u q. bind-same view (checkEach (isAligned (fold latest 32 es)) 16 offsetPlace ts) s q l _ _ (λ v r. ap (λ w. accepted w r) same))

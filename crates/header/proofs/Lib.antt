@@ -20,3 +20,4 @@ pub mod EachRefusal
 pub mod TableRows
 pub mod OffsetsAligned
 pub mod MoreRows
+pub mod EitherMagic

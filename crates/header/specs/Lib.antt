@@ -5,3 +5,4 @@ pub mod Contents
 pub mod Refusals
 pub mod Spans
 pub mod Offsets
+pub mod Magics

@@ -4,6 +4,7 @@ pub mod BackLaws
 pub mod CeilingLaws
 pub mod SureLaws
 pub mod RunLaws
+pub mod Views
 pub mod Onward
 pub mod RefusalLaws
 pub mod EachChecked

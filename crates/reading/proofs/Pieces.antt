@@ -70,6 +70,10 @@ feed-run (field l w k) s at h =
     (λ i. rw drop-drop (feed-run (k (take l (take w (drop at s)))) s (at + w) i)) refl
 feed-run (known x v p m) s at h = feed-run m s at h
 
+-- so what it gives from a place on hangs on the bytes from there on
+pub from-there : {A : Type 0} (m : Reading A) (s t : List ℕ) (at : ℕ) → at ≤ length s → at ≤ length t → drop at s ≡ drop at t → run m s at ≡ run m t at
+from-there m s t at h i e = sym (feed-run m s at h) ∙ ap (λ bs. finish (feed m at bs)) e ∙ feed-run m t at i
+
 pub mores-joined : {A : Type 0} (m : Reading A) (at : ℕ) (xs : List ℕ) (ps : List (List ℕ)) → mores (feed m at xs) ps ≡ feed m at (xs ++ joined ps)
 unfolding mores joined
 mores-joined m at xs [] = ap (feed m at) (sym (append-nil xs))
