@@ -15,7 +15,7 @@ use Rattle.reading.specs.Reading.{Reading, done, refuse, Answer, accepted, refu
 use Rattle.reading.specs.declared.Limits.{Limits}
 use Rattle.reading.proofs.CeilingLaws.{run-under}
 use Rattle.reading.proofs.Pieces.{from-there}
-use Rattle.reading.proofs.Views.{shown-then, then-same, bind-shows, bind-same}
+use Rattle.reading.proofs.Views.{shown-then, then-same, bind-shows, same-under}
 use Rattle.fields.specs.Value.{number}
 use Rattle.values.specs.declared.Dialect.{Dialect}
 use Rattle.values.specs.Format.{size, textLooking, text, key, type, valueOf, array, value, entry}
@@ -35,6 +35,7 @@ use Rattle.header.proofs.Judged.{seen-judged}
 abbrev withMagic : Bool → Dialect → Dialect
 withMagic turned k = record { version = k .version; big = k .big; turned = turned }
 
+-- and what stands before the records of such a file
 abbrev startWith : Bool → Start → Start
 startWith turned c = record { dialect = withMagic turned (c .dialect); tensors = c .tensors; entries = c .entries }
 
@@ -67,8 +68,8 @@ module _ (s : List ℕ) where
     any-records : (turned : Bool) (cap : ℕ) (c : Start) (p : ℕ) → seen either (run (under l (records cap (startWith turned c))) s p) ≡ seen either (run (under l (records cap c)) s p)
     any-records turned cap c p =
         rw (any-entry turned (c .dialect) cap, any-tensor turned (c .dialect))
-        (bind-same either (times (c .entries) (entry (c .dialect) cap)) s p l _ _ (λ es q. bind-same either (each (tensor (c .dialect)) totalOf (c .tensors) 0) s q l _ _ (λ ts r.
-        bind-same either here s r l _ _ (λ e u. seen-judged either (startWith turned c) c es ts e refl l s u))))
+        (same-under either (times (c .entries) (entry (c .dialect) cap)) s p l _ _ (λ es q. same-under either (each (tensor (c .dialect)) totalOf (c .tensors) 0) s q l _ _ (λ ts r.
+        same-under either here s r l _ _ (λ e u. seen-judged either (startWith turned c) c es ts e refl l s u))))
 
     -- all that follows the version
     any-rest : (turned : Bool) (rooms : Rooms) (cap : ℕ) (k : Dialect) (p : ℕ)
@@ -78,7 +79,7 @@ module _ (s : List ℕ) where
         (then-same either (run (counts rooms k) s p) _ _ (λ c q. any-records turned cap c q))
 
     module _ (rooms : Rooms) (cap : ℕ) {turned : Bool} (magical : accepted turned 4 ≡ run magic s 0) where
-      -- past the version
+      -- past the version, and where that is refused
       goes-past : {k : Dialect} {p : ℕ} → accepted k p ≡ run (under l (version turned)) s 4 → run (under l (header rooms cap)) s 0 ≡ run (under l (counts rooms k >>= records cap)) s p
       unfolding header start andThen
       goes-past {k} {p} e = rw (run-under l (start rooms), run-under l magic, under-magic, ← magical, run-under l (version turned), ← e, run-under l (counts rooms k) (records cap) s p) refl
@@ -101,12 +102,14 @@ bigThree turned = record { version = 3; big = true; turned = turned }
 abbrev versionIn : Limits → Bool → Answer Dialect
 versionIn l turned = if leb 3 (l .versions) then accepted (bigThree turned) 8 else refused 5 4
 
+-- an answer or a refusal, by a test
 limited : {A : Type 0} (b : Bool) (a : A) (s : List ℕ) → (if b then accepted a 8 else refused 5 4) ≡ run (if b then done a else refuse 5 4) s 8
 unfolding run
 limited true a s = refl
 limited false a s = refl
 
 module _ (r : List ℕ) where
+  -- the magic and the version of both forms
   kept-magic : accepted false 4 ≡ run magic (magicKept r) 0
   unfolding magic number here run _>>=_
   kept-magic = rw (le-leb 4 (length (magicKept r)) (omega arith)) refl

@@ -17,7 +17,7 @@ use Rattle.reading.proofs.EachChecked.{sure-check-each, low-check-each, refuses
 use Rattle.reading.proofs.Onward.{all-so}
 use Rattle.reading.proofs.RefusalLaws.{refuses-then, refuses-done, refuses-check}
 use Rattle.reading.proofs.SureLaws.{sure-then, sure-done, sure-check}
-use Rattle.reading.proofs.Views.{bind-same}
+use Rattle.reading.proofs.Views.{same-under}
 use Rattle.kinds.specs.Shape.{greatest}
 use Rattle.layout.specs.Padding.{padded}
 use Rattle.values.specs.declared.Entry.{Entry}
@@ -59,4 +59,4 @@ pub seen-judged : {C : Type 0} (view : FullHeader → C) (c c′ : Start) (es : 
     → (l : Limits) (s : List ℕ) (p : ℕ) → seen view (run (under l (judged c es ts e)) s p) ≡ seen view (run (under l (judged c′ es ts e)) s p)
 unfolding under run seen
 seen-judged view c c′ es ts e same l s p =
-    bind-same view (check (leb (padded (fold latest 32 es) e) greatest) 18 e) s p l _ _ (λ u q. bind-same view (checkEach (isAligned (fold latest 32 es)) 16 offsetPlace ts) s q l _ _ (λ v r. ap (λ w. accepted w r) same))
+    same-under view (check (leb (padded (fold latest 32 es) e) greatest) 18 e) s p l _ _ (λ u q. same-under view (checkEach (isAligned (fold latest 32 es)) 16 offsetPlace ts) s q l _ _ (λ v r. ap (λ w. accepted w r) same))

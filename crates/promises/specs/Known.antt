@@ -235,10 +235,10 @@ pub record Known : Type 0 where
   -- the sheet of the byte 1: 24 bytes, then 8 zeros
   pub only-version : answerFor (little 3) 32 (1 ∷ []) (replicate 32 255) ≡ Written 24 32
   pub then-zeros : outputFor (little 3) 32 (1 ∷ []) (replicate 33 255) ≡ empty3 ++ replicate 8 0 ++ (255 ∷ [])
-  -- the same in both big-endian forms, of which the one behind the same magic is there in version 3
-  -- alone
+  -- the same in both big-endian forms; the one behind the same magic is there in version 3 alone,
+  -- whatever the alignment, the sheet and the output
   pub then-zeros-big : outputFor (big 3) 32 (1 ∷ []) (replicate 33 255) ≡ emptyBig ++ replicate 8 0 ++ (255 ∷ [])
-  pub big-30 : (out : List ℕ) → (answerFor (big 1) 32 (1 ∷ []) out ≡ NotWritten 30 0) × (answerFor (big 2) 32 (1 ∷ []) out ≡ NotWritten 30 0)
+  pub big-30 : (a : ℕ) (s out : List ℕ) → (answerFor (big 1) a s out ≡ NotWritten 30 0) × (answerFor (big 2) a s out ≡ NotWritten 30 0)
   pub then-zeros-turned : outputFor (bigTurned 3) 32 (1 ∷ []) (replicate 33 255) ≡ emptyTurned 3 16 ++ replicate 8 0 ++ (255 ∷ [])
   pub then-zeros-turned-2 : outputFor (bigTurned 2) 32 (1 ∷ []) (replicate 33 255) ≡ emptyTurned 2 16 ++ replicate 8 0 ++ (255 ∷ [])
   pub then-zeros-turned-1 : outputFor (bigTurned 1) 32 (1 ∷ []) (replicate 33 255) ≡ emptyTurned 1 8 ++ replicate 16 0 ++ (255 ∷ [])

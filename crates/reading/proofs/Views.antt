@@ -27,10 +27,13 @@ then-shows view (accepted a q) f g h = h a q
 then-shows view (refused n p) f g h = refl
 
 module _ {A B C : Type 0} (view : B → C) (m : Reading A) (s : List ℕ) (p : ℕ) where
-  -- the same of one program and then two others
+  -- the same of one program and then two others, and of these under ceilings
   pub bind-shows : (f : A → Reading C) (g : A → Reading B) → ((a : A) (q : ℕ) → run (f a) s q ≡ seen view (run (g a) s q)) → run (m >>= f) s p ≡ seen view (run (m >>= g) s p)
   bind-shows f g h = rw (run-bind m f s p, run-bind m g s p) (then-shows view (run m s p) _ _ h)
 
-  pub bind-same : (l : Limits) (f g : A → Reading B) → ((a : A) (q : ℕ) → seen view (run (under l (f a)) s q) ≡ seen view (run (under l (g a)) s q))
+  pub bind-same : (f g : A → Reading B) → ((a : A) (q : ℕ) → seen view (run (f a) s q) ≡ seen view (run (g a) s q)) → seen view (run (m >>= f) s p) ≡ seen view (run (m >>= g) s p)
+  bind-same f g h = rw (run-bind m f s p, run-bind m g s p) (then-same view (run m s p) _ _ h)
+
+  pub same-under : (l : Limits) (f g : A → Reading B) → ((a : A) (q : ℕ) → seen view (run (under l (f a)) s q) ≡ seen view (run (under l (g a)) s q))
       → seen view (run (under l (m >>= f)) s p) ≡ seen view (run (under l (m >>= g)) s p)
-  bind-same l f g h = rw (run-under l m f s p, run-under l m g s p) (then-same view (run (under l m) s p) _ _ h)
+  same-under l f g h = rw (run-under l m f s p, run-under l m g s p) (then-same view (run (under l m) s p) _ _ h)

@@ -28,13 +28,13 @@ version-small v e = by (eqb v 0) e
 
 -- so is the version of a known form
 pub dialect-small : (k : Dialect) → knownDialect k ≡ true → k .version ≤ 3
-dialect-small k e = by (k .big) (k .turned) e
+dialect-small k e = by (k .version) (k .big) (k .turned) e
   where
-    by : (big turned : Bool) → (if big then (if turned then knownVersion (k .version) else eqb (k .version) 3) else if turned then false else knownVersion (k .version)) ≡ true → k .version ≤ 3
-    by true true e = version-small (k .version) e
-    by true false e = omega (arith, eqb-true (k .version) 3 e)
-    by false true e = let z : _≡_ {A = ℕ} 0 1 = cc in absurd (omega arith)
-    by false false e = version-small (k .version) e
+    by : (v : ℕ) (big turned : Bool) → knownDialect (record { version = v; big = big; turned = turned }) ≡ true → v ≤ 3
+    by v true true e = version-small v e
+    by v true false e = omega (arith, eqb-true v 3 e)
+    by v false true e = let z : _≡_ {A = ℕ} 0 1 = cc in absurd (omega arith)
+    by v false false e = version-small v e
 
 module _ (l : Limits) where
   pub low-magic : Low l magic

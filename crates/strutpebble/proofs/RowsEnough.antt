@@ -17,6 +17,7 @@ use Rattle.reading.proofs.CeilingLaws.{under-bind, run-under}
 use Rattle.reading.proofs.RunLaws.{run-bind}
 use Rattle.reading.proofs.SureLaws.{sure-then, sure-done, sure-here, sure-check, sure-run, sure-under, whatever}
 use Rattle.reading.proofs.Repetition.{seen-accepted}
+use Rattle.reading.proofs.Views.{bind-same}
 use Rattle.values.specs.Format.{size, key, value, keeping, entry}
 use Rattle.values.specs.declared.Dialect.{Dialect}
 use Rattle.values.specs.declared.Entry.{Entry}
@@ -44,26 +45,11 @@ entryOf cap x v = record { key = x .span; «is_alignment» = x .«is_alignment»
 
 -- what an entry does to the alignment is the same under any two caps
 module _ (k : Dialect) (cap cap′ : ℕ) (s : List ℕ) (a : ℕ) where
-  value-same : (x : Key) (r : Answer Value)
-      → seen (latest a) (andThen r (λ v o. run (done (entryOf cap x v)) s o)) ≡ seen (latest a) (andThen r (λ v o. run (done (entryOf cap′ x v)) s o))
-  unfolding seen andThen run
-  value-same x (accepted v o) = rw (kept-alignment (x .«is_tokenizer») cap v, kept-alignment (x .«is_tokenizer») cap′ v) refl
-  value-same x (refused n o) = refl
-
-  key-same : (r : Answer Key)
-      → seen (latest a) (andThen r (λ x o. run (value k >>= (λ v. done (entryOf cap x v))) s o))
-      ≡ seen (latest a) (andThen r (λ x o. run (value k >>= (λ v. done (entryOf cap′ x v))) s o))
-  unfolding seen andThen
-  key-same (accepted x o) =
-      ap (seen (latest a)) (run-bind (value k) (λ v. done (entryOf cap x v)) s o) ∙ value-same x (run (value k) s o)
-      ∙ ap (seen (latest a)) (sym (run-bind (value k) (λ v. done (entryOf cap′ x v)) s o))
-  key-same (refused n o) = refl
-
   entry-same : (p : ℕ) → seen (latest a) (run (entry k cap) s p) ≡ seen (latest a) (run (entry k cap′) s p)
-  unfolding entry
+  unfolding entry run seen
   entry-same p =
-      ap (seen (latest a)) (run-bind (key k) (λ x. value k >>= (λ v. done (entryOf cap x v))) s p) ∙ key-same (run (key k) s p)
-      ∙ ap (seen (latest a)) (sym (run-bind (key k) (λ x. value k >>= (λ v. done (entryOf cap′ x v))) s p))
+      bind-same (latest a) (key k) s p _ _ (λ x q. bind-same (latest a) (value k) s q (λ v. done (entryOf cap x v)) (λ v. done (entryOf cap′ x v)) (λ v o.
+      rw (kept-alignment (x .«is_tokenizer») cap v, kept-alignment (x .«is_tokenizer») cap′ v) refl))
 
 -- what is folded over a list, once its first is known
 first-folded : {A T : Type 0} (g : T → A → T) (y : T) (a : A) (s : List ℕ) (r : Answer (List A))

@@ -12,8 +12,8 @@ use Rattle.start.proofs.read_start.Statement.{statement}
 use Rattle.start.proofs.read_start.Tie as tie
 
 -- the magic that was read
-ordered : (c : tie.After-turned) → accepted (c .turned .given .0 .0) (c .turned .given .0 .1 .0) ≡ run magic (now (c .before .before .before .before .args .s)) 0
-ordered c = ap asMagic (sym (c .turned .given .1)) ∙ c .before .before .read-magic .ensures
+magic-read : (c : tie.After-turned) → accepted (c .turned .given .0 .0) (c .turned .given .0 .1 .0) ≡ run magic (now (c .before .before .before .before .args .s)) 0
+magic-read c = ap asMagic (sym (c .turned .given .1)) ∙ c .before .before .read-magic .ensures
 
 returns : tie.Need-returns
 unfolding start andThen
@@ -25,14 +25,14 @@ returns-2 : tie.Need-returns-2
 unfolding start andThen
 returns-2 c =
     let q = ap asVersion (sym (c .before .why2 .given .1)) ∙ c .before .before .before .read-version .ensures in
-    rw (run-under, under-magic, ← ordered (c .before .before .before .before .before), run-under, ← q) refl
+    rw (run-under, under-magic, ← magic-read (c .before .before .before .before .before), run-under, ← q) refl
 
 returns-3 : tie.Need-returns-3
 unfolding start andThen
 returns-3 c =
     let d = c .before .before in
     let q = ap asVersion (sym (d .dialect .given .1)) ∙ d .before .before .read-version .ensures in
-    rw (run-under, under-magic, ← ordered (d .before .before .before .before), run-under, ← q, under-counts) (c .read-counts .ensures)
+    rw (run-under, under-magic, ← magic-read (d .before .before .before .before), run-under, ← q, under-counts) (c .read-counts .ensures)
 
 pub read-start-spec : {M : Type 1} → statement M
 read-start-spec =
