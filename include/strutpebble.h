@@ -2,7 +2,8 @@
  *
  * Link libstrutpebble.a (rt staticlib strutpebble, or what ./install leaves); x86-64. It takes
  * memcpy and memset from the C library and nothing else, allocates nothing, keeps nothing between
- * calls, and needs some 4.5 KiB of stack. This header wants C11 or C++11.
+ * calls, and needs some 5.5 KiB of stack, however deep arrays stand in one another. This header wants
+ * C11 or C++11.
  *
  * docs/REFUSALS.md has each refusal with its place and what to do about it. */
 #ifndef STRUTPEBBLE_H
@@ -38,7 +39,7 @@ enum {
     SP_TOO_FEW_ROWS = 6,          /* more tensors, or more entries, than rows for them */
     SP_STRING_TOO_LONG = 7,       /* a string of more than 2^30 bytes */
     SP_UNKNOWN_TYPE = 8,          /* a value type or item type above 12 */
-    SP_NESTED_ARRAY = 9,          /* an array of arrays with a count above 0 */
+    SP_NESTED_ARRAY = 9,          /* an array inside four others */
     SP_TOO_MANY_DIMENSIONS = 10,  /* more than 4 dimensions */
     SP_UNKNOWN_KIND = 11,         /* a number that names no kind of tensor */
     SP_KIND_ABOVE_CEILING = 12,   /* a kind above kind_ceiling */
@@ -83,7 +84,7 @@ static inline const char *sp_reason(uint64_t number) {
     case SP_TOO_FEW_ROWS: return "there are more tensors, or more entries, than rows for them";
     case SP_STRING_TOO_LONG: return "a string has more than 2^30 bytes";
     case SP_UNKNOWN_TYPE: return "there is no such type of value";
-    case SP_NESTED_ARRAY: return "the items of an array are arrays";
+    case SP_NESTED_ARRAY: return "arrays stand in one another more than 4 deep";
     case SP_TOO_MANY_DIMENSIONS: return "a tensor has more than 4 dimensions";
     case SP_UNKNOWN_KIND: return "there is no such kind of tensor";
     case SP_KIND_ABOVE_CEILING: return "the kind of a tensor is above the highest that is accepted";
@@ -118,7 +119,10 @@ enum {
 
 /* A metadata entry. Keys and strings are places in the prefix: key_length bytes from
  * prefix + key_place on, with no zero byte after them. Of an accepted header all of them lie inside
- * the prefix. What the last four words mean depends on the type; words without a meaning are 0. */
+ * the prefix. What the last four words mean depends on the type; words without a meaning are 0.
+ *
+ * An array's items may be arrays, four in one another at most, and all of them are checked. A size
+ * has 4 bytes in version 1, and else 8. */
 typedef struct sp_entry {
     uint64_t key_place;
     uint64_t key_length;
@@ -134,7 +138,8 @@ typedef struct sp_entry {
     };
     uint64_t kept;          /* of an array's items: all, or as many as the cap says */
     uint64_t first;         /* the place of an array's first item; the others follow as the file
-                               has them: in its byte order, strings with their size in front */
+                               has them: in its byte order, strings behind their size, arrays
+                               behind their item type (4 bytes) and their count (a size) */
 } sp_entry;
 
 /* A tensor. Lengths beyond the dimensions are 1. The offset counts from the start of the data, the
@@ -220,7 +225,8 @@ uint64_t sp_measure(const uint8_t *prefix, size_t prefix_len, uint32_t version_c
 /* Reads the header at the front of prefix_len bytes.
  *
  * The ceilings are sp_measure's; cap is how many items an array under a key that starts with
- * "tokenizer." keeps (every item is checked all the same).
+ * "tokenizer." keeps (every item is checked all the same). Where the items are arrays, it counts
+ * these, and not what is in them.
  *
  * Returns 0 with what the header says of itself in answer, and fills a row for each entry and each
  * tensor, in the order of the file; rows after those are left as they are. Otherwise returns the
@@ -273,9 +279,10 @@ uint64_t sp_check_ranges(const sp_tensor *tensors, size_t tensor_rows, uint64_t 
  * number in it is big-endian. A metadata entry is the byte 1, the key's length (4 bytes), the key,
  * the byte of a type and a value: a scalar in its own width, a bool as 0 or 1; a string as the
  * rest; an array as the byte of an item type, a count (4 bytes) and the items, strings each behind
- * a length (4 bytes). A tensor is the byte 2, the name's length (4 bytes), the name, its kind (4
- * bytes), its dimension count (1 byte) and its lengths (8 bytes each). Metadata comes first, with
- * keys strictly ascending by bytes.
+ * a length (4 bytes), and arrays likewise. Four arrays may stand in one another: the item type of
+ * the fourth is no array's, even where it has no items. A tensor is the byte 2, the name's length (4
+ * bytes), the name, its kind (4 bytes), its dimension count (1 byte) and its lengths (8 bytes each).
+ * Metadata comes first, with keys strictly ascending by bytes.
  *
  * version is 1, 2 or 3. byte_order is SP_LITTLE_ENDIAN, SP_BIG_ENDIAN, which goes with version 3
  * alone, or SP_BIG_ENDIAN_MAGIC; any other number means SP_BIG_ENDIAN. Where alignment is not 32 and

@@ -8,6 +8,9 @@ pub struct Plan {
     /// Whether each token has a score and a type.
     pub scored: bool,
     pub merges: u64,
+    /// How many lists of two numbers stand in one list, and in a third and a fourth. The original
+    /// reads no such header.
+    pub lists: u64,
     pub tensors: u64,
     /// How many bytes of it are at hand, where it is cut.
     pub cut: Option<usize>,
@@ -24,6 +27,7 @@ impl Plan {
                 "tokens" => plan.tokens = count,
                 "scored" => plan.scored = true,
                 "merges" => plan.merges = count,
+                "lists" => plan.lists = count,
                 "tensors" => plan.tensors = count,
                 "cut" => plan.cut = Some(count as usize),
                 _ => panic!("no such part of an input: {word}"),
@@ -154,6 +158,21 @@ impl Made {
         }
     }
 
+    /// A list in a list in a list of so many lists of two numbers.
+    fn lists(&mut self, count: u64) {
+        self.array("vision.tiles", ARRAY, 1);
+        for (item, count) in [(ARRAY, 1), (ARRAY, count)] {
+            self.u32(item);
+            self.u64(count);
+        }
+        for index in 0..count as u32 {
+            self.u32(U32);
+            self.u64(2);
+            self.u32(index);
+            self.u32(336);
+        }
+    }
+
     fn entries(&mut self, plan: Plan) {
         self.string("general.architecture", "llama");
         self.string("general.name", "A model of eight billion parameters");
@@ -169,6 +188,9 @@ impl Made {
         self.number("llama.attention.head_count", 32);
         self.number("llama.attention.head_count_kv", 8);
         self.float("llama.attention.layer_norm_rms_epsilon", 1e-5);
+        if plan.lists > 0 {
+            self.lists(plan.lists);
+        }
         self.string("tokenizer.ggml.model", "llama");
         if plan.tokens > 0 {
             self.vocabulary(plan);

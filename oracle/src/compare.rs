@@ -1,9 +1,10 @@
 //! One input through both readers, and every result compared.
 
-use crate::domain::{measure, number_in, twin, Domain, Walk, OTHER_BLOCKS};
+use crate::domain::{measure, number_in, twin, Domain, Nested, Step, Walk, OTHER_BLOCKS};
 use crate::inputs::WIDTHS;
 use crate::original::*;
 use crate::questions::{in_words, Asked};
+use crate::tree::Tree;
 use serde_json::Value;
 use std::collections::{BTreeMap, BTreeSet};
 use std::io::Cursor;
@@ -28,6 +29,28 @@ impl Ours<'_> {
         self.entries.iter().all(|row| *row == UNTOUCHED_ENTRY)
             && self.tensors.iter().all(|row| *row == UNTOUCHED_TENSOR)
     }
+
+    /// The header's end, or the refusal's number and place, which is a byte of the input or the
+    /// byte after its last.
+    fn said(&self, bytes: &[u8]) -> Step<u64> {
+        let end = self.answer.map(|summary| summary.header_end);
+        end.map_err(|refusal| match refusal.place() {
+            Place::Prefix(byte) if byte <= bytes.len() as u64 => (refusal.number(), byte),
+            other => panic!("refused at {other}: {bytes:?}"),
+        })
+    }
+
+    /// Panics where the three ways to read an input say other things of it, or where the crate has
+    /// other values of a header than the walk.
+    fn agree(&self, walk: &Walk, bytes: &[u8]) {
+        let own = self.header.as_ref().map(|header| header.summary());
+        assert_eq!(own, self.answer.as_ref().copied(), "the crate's own rows: {bytes:?}");
+        assert_eq!(self.measured, self.answer, "without rows: {bytes:?}");
+        if let Ok(header) = &self.header {
+            let values = header.entries().map(|entry| (entry.key(), Tree::of(entry.value())));
+            assert_eq!(values.collect::<Vec<_>>(), walk.entries, "the crate's: {bytes:?}");
+        }
+    }
 }
 
 fn ours(bytes: &[u8], cap: u64) -> Ours<'_> {
@@ -37,14 +60,6 @@ fn ours(bytes: &[u8], cap: u64) -> Ours<'_> {
     let answer = options.read_rows(bytes, &mut entries, &mut tensors);
     let (measured, header) = (options.measure(bytes), options.read(bytes));
     Ours { answer, entries, tensors, measured, header }
-}
-
-/// The number of a reader's refusal, whose place is a byte of the input or the byte after its last.
-fn number_of(refusal: Refusal, bytes: &[u8]) -> u64 {
-    match refusal.place() {
-        Place::Prefix(byte) if byte <= bytes.len() as u64 => refusal.number(),
-        other => panic!("refused at {other}: {bytes:?}"),
-    }
 }
 
 /// The refusal's number that an error of the original stands for.
@@ -158,6 +173,16 @@ pub struct Agreed {
     magic_kept: BTreeMap<u64, u64>,
     /// The twins of those, each compared as any input is.
     twins: Option<Box<Agreed>>,
+    /// By refusal (0: accepted): how many have arrays in arrays, all of which are passed.
+    nested: BTreeMap<u64, u64>,
+    /// The flat twins of those, each compared as any input is.
+    flats: Option<Box<Agreed>>,
+    /// By refusal: how many have arrays in arrays, and are refused inside one of these.
+    refused_inside: BTreeMap<u64, u64>,
+    /// By how many arrays stand in one another: how many are accepted.
+    depths: BTreeMap<u32, u64>,
+    /// How many of these have more entries than the reader keeps while it tests.
+    long: u64,
     /// What the questions answered of the same inputs.
     pub asked: Asked,
 }
@@ -167,24 +192,24 @@ impl Agreed {
     /// does not do what it must outside.
     pub fn on(&mut self, bytes: &[u8], cap: u64) {
         let ours = ours(bytes, cap);
-        let number = ours.answer.err().map_or(0, |refusal| number_of(refusal, bytes));
+        let walk = Walk::over(bytes, ROWS as u64);
+        let said = ours.said(bytes);
+        assert_eq!(said, walk.answer, "the walk: {bytes:?}");
+        let number = said.err().map_or(0, |(number, _)| number);
         assert!(number == 0 || ours.left_the_tables(), "rows: {bytes:?}");
-        let Walk { domain, misaligned } = Walk::over(bytes, ROWS as u64);
-        if domain == Domain::MagicKept {
-            return self.on_magic_kept(&ours, number, bytes, cap);
+        match walk.domain {
+            Domain::MagicKept => return self.on_magic_kept(&ours, number, bytes, cap),
+            Domain::MoreRecords => {
+                // The crate has rows for every count, and never gives this refusal.
+                assert_ne!(ours.header.err().map(|refusal| refusal.number()), Some(6), "{bytes:?}");
+                return self.one_outside("more records than rows: here refusal 6");
+            }
+            _ => ours.agree(&walk, bytes),
         }
-        if domain == Domain::MoreRecords {
-            // The crate has rows for every count, and never gives this refusal.
-            assert_eq!(number, 6, "{bytes:?}");
-            assert_ne!(ours.header.err().map(|refusal| refusal.number()), Some(6), "{bytes:?}");
-            return self.one_outside("more records than rows: here refusal 6");
-        }
-        let own = ours.header.as_ref().map(|header| header.summary());
-        assert_eq!(own, ours.answer.as_ref().copied(), "the crate's own rows: {bytes:?}");
-        assert_eq!(ours.measured, ours.answer, "without rows: {bytes:?}");
         // Nothing where the original panics.
         let theirs = std::panic::catch_unwind(|| theirs(bytes, cap)).ok();
-        match domain {
+        match walk.domain {
+            Domain::NestedArray => return self.on_nested(&ours, theirs, &walk, bytes, cap),
             Domain::PartialBlock(place) => self.on_partial_block(&ours, theirs, place, bytes),
             Domain::OtherBlock(kind) => self.on_other_block(&ours, theirs, kind, bytes),
             Domain::Misaligned { place, other } => {
@@ -192,7 +217,7 @@ impl Agreed {
             }
             _ => self.on_same(&ours, theirs, bytes),
         }
-        if misaligned.is_some() {
+        if walk.misaligned.is_some() {
             assert_ne!(number, 0, "accepted, and an offset is misaligned: {bytes:?}");
             *self.also_misaligned.entry(number).or_default() += 1;
         }
@@ -207,6 +232,36 @@ impl Agreed {
         Asked::same_as_twin(bytes, &twin);
         self.twins.get_or_insert_default().on(&twin, cap);
         *self.magic_kept.entry(number).or_default() += 1;
+    }
+
+    /// An array has arrays as items, for which the original refuses it. Here the walk has named the
+    /// answer. Where all such arrays are passed, everything but their rows is as in the flat twin,
+    /// which is compared with the original as any input is.
+    fn on_nested(
+        &mut self,
+        nested: &Ours,
+        theirs: Option<Theirs>,
+        walk: &Walk,
+        bytes: &[u8],
+        cap: u64,
+    ) {
+        assert_eq!(theirs.and_then(Result::err), Some(9), "the original: {bytes:?}");
+        let number = nested.answer.err().map_or(0, |refusal| refusal.number());
+        let Some(flat) = walk.flat(bytes) else {
+            let refusal = nested.answer.expect_err("accepted, and an array is refused");
+            self.asked.on_nested_refusal(bytes, refusal);
+            *self.refused_inside.entry(number).or_default() += 1;
+            return;
+        };
+        same_as_flat(nested, &ours(&flat, cap), walk, cap, bytes);
+        self.asked.on_nested(bytes, &flat);
+        self.flats.get_or_insert_default().on(&flat, cap);
+        *self.nested.entry(number).or_default() += 1;
+        if number == 0 {
+            let depths = walk.entries.iter().map(|(_, value)| value.depth());
+            *self.depths.entry(depths.max().unwrap_or(0)).or_default() += 1;
+            self.long += u64::from(walk.entries.len() > 64);
+        }
     }
 
     /// Inside the domain.
@@ -332,15 +387,42 @@ impl Agreed {
         for (what, count) in &self.outside {
             println!("{count:>9}  outside the domain, {what}");
         }
+        self.print_nested();
         self.print_magic_kept();
         println!("{:>9}  of the 9 kinds of another block came up", self.other_blocks.len());
         println!("{:>9}  alignments came up with a misaligned offset", self.alignments.len());
         for (number, count) in &self.also_misaligned {
             println!("{count:>9}  of those refused {number} have a misaligned offset too");
         }
+        if let Some(flats) = &self.flats {
+            println!("The readers, on the flat twins of those with arrays in arrays");
+            flats.print();
+        }
         if let Some(twins) = &self.twins {
             println!("The readers, on the twins of those, with the magic turned round too");
             twins.print();
+        }
+    }
+
+    /// Those that have arrays in arrays.
+    fn print_nested(&self) {
+        for (number, count) in &self.refused_inside {
+            let what = format!("arrays in arrays: here refused {number} inside one");
+            println!("{count:>9}  outside the domain, {what}, the original refuses 9");
+        }
+        for (number, count) in &self.nested {
+            let what = format!("arrays in arrays that are passed: here {}", said(*number));
+            println!("{count:>9}  outside the domain, {what}, the original refuses 9");
+        }
+        for (depth, count) in &self.depths {
+            println!("{count:>9}  of those accepted have {depth} arrays in one another");
+        }
+        if self.long > 0 {
+            println!("{:>9}  of those accepted have more than 64 entries", self.long);
+        }
+        let all: u64 = self.nested.values().sum();
+        if all > 0 {
+            println!("{all:>9}  with these passed, and all but their rows is the flat twin's");
         }
     }
 
@@ -380,6 +462,40 @@ fn same_as_twin(kept: &Ours, twin: &Ours, bytes: &[u8]) {
         }
         (own, other) => assert_eq!(own.as_ref().err(), other.as_ref().err(), "{bytes:?}"),
     }
+}
+
+/// Panics where this project says another thing of an input that has arrays in arrays than of its
+/// flat twin. Only the rows of these arrays are others: their item type, their count and how many
+/// items are kept.
+fn same_as_flat(nested: &Ours, flat: &Ours, walk: &Walk, cap: u64, bytes: &[u8]) {
+    assert_eq!(nested.answer, flat.answer, "{bytes:?}");
+    assert_eq!(nested.measured, flat.measured, "without rows: {bytes:?}");
+    assert!(nested.tensors == flat.tensors, "rows: {bytes:?}");
+    for (row, flat) in nested.entries.iter().zip(&flat.entries) {
+        assert_eq!(*row, nested_row(flat, walk, cap, bytes), "{bytes:?}");
+    }
+    match (&nested.header, &flat.header) {
+        (Ok(own), Ok(other)) => {
+            let Summary { entries, tensors, .. } = own.summary();
+            assert_eq!(own.summary(), other.summary(), "{bytes:?}");
+            assert!(own.tensors().eq(other.tensors()), "the crate's: {bytes:?}");
+            same_rows(own, &nested.entries[..entries], &nested.tensors[..tensors], bytes);
+        }
+        (own, other) => assert_eq!(own.as_ref().err(), other.as_ref().err(), "{bytes:?}"),
+    }
+}
+
+/// The row of an entry, by its row in the flat twin: one of an array that has arrays as items has
+/// this item type and the array's own count, of which the cap counts no items of items.
+fn nested_row(flat: &EntryRow, walk: &Walk, cap: u64, bytes: &[u8]) -> EntryRow {
+    let mut row = *flat;
+    let is_it = |array: &&Nested| flat[2] == 9 && flat[6] == array.first;
+    if let Some(array) = walk.nested.iter().find(is_it) {
+        let is_capped = part(bytes, flat[0], flat[1]).starts_with(b"tokenizer.");
+        let kept = if is_capped { array.count.min(cap) } else { array.count };
+        row[3..6].copy_from_slice(&[9, array.count, kept]);
+    }
+    row
 }
 
 /// What a twin says of itself, in the byte order of the input that keeps the magic.
@@ -428,11 +544,16 @@ fn same_tensor(row: &TensorRow, tensor: &Tensor, bytes: &[u8]) {
     assert!(row[9] == tensor.size || OTHER_BLOCKS.contains(&tensor.kind), "{bytes:?}");
 }
 
-/// Panics where a header of the crate has other records than the rows that its reader filled.
+/// Panics where a header of the crate has other records than the rows that its reader filled. The
+/// values that are no arrays are held against the walk.
 fn same_rows(header: &Header, entries: &[EntryRow], tensors: &[TensorRow], bytes: &[u8]) {
     let keys = entries.iter().map(|row| (part(bytes, row[0], row[1]), row[2]));
     let own = header.entries().map(|entry| (entry.key(), entry.value().value_type() as u64));
     assert!(own.eq(keys), "the crate's entries: {bytes:?}");
+    let arrays = entries.iter().filter(|row| row[2] == 9).map(|row| (row[3], row[4], row[5]));
+    let own = header.entries().filter_map(|entry| entry.value().as_array());
+    let own = own.map(|array| (array.item_type() as u64, array.len(), array.kept()));
+    assert!(own.eq(arrays), "the crate's arrays: {bytes:?}");
     let rows =
         tensors.iter().map(|row| (part(bytes, row[0], row[1]), row[2] as u32, row[8], row[9]));
     let own = header.tensors().map(|t| (t.name(), t.kind().number(), t.offset(), t.size()));

@@ -5,6 +5,12 @@
 //! it. So an input leaves the domain where it begins with that magic and `00 00 00 03`, whatever
 //! follows. Both read its twin, which has the magic turned round too.
 //!
+//! This project reads arrays in arrays, four deep with the outermost. The original refuses (9)
+//! every array that has an array as an item. So an input leaves the domain where the reading comes
+//! to the count of an array of arrays, and that is above 0. Where every such array is passed, both
+//! read the input's flat twin, in which the bytes of the items are the items: all that comes after
+//! them stands at the same place there.
+//!
 //! This project goes by ggml's own table of blocks, and refuses (17) a tensor whose first length is
 //! not whole blocks of its kind. The original has another block for nine of the kinds, and no such
 //! test. So an input leaves the domain where the reading comes to the end of the record of such a
@@ -15,10 +21,14 @@
 //! header's alignment, at which the original does not look. So an input leaves the domain where it
 //! passes every other test and an offset is misaligned. One that is refused for another reason
 //! stays where it was, whatever its offsets are.
+//!
+//! The walk goes by this project's rules up to the end, whatever the original does, so that every
+//! answer of this project can be held against it: the header's end, or a refusal with its place.
 
-use crate::inputs::WIDTHS;
+use crate::inputs::{number, WIDTHS};
+use crate::tree::{Tree, DEEPEST};
 
-/// Where an input, or a sheet, stands.
+/// Where an input, or a sheet, stands. What the original comes to first decides.
 #[derive(Clone, Copy, Debug, PartialEq, Eq)]
 pub enum Domain {
     /// Both must say the same of it.
@@ -28,6 +38,9 @@ pub enum Domain {
     MagicKept,
     /// It counts more records than there are rows. The original has no rows.
     MoreRecords,
+    /// The reading comes to an array that has arrays as items: here it is read, up to four deep,
+    /// and the original refuses it (9).
+    NestedArray,
     /// The reading comes to a tensor that is not whole blocks by this project's table, whatever its
     /// kind: here it is refused 17. The place is the first byte of the first such record, or in a
     /// sheet the tensor's number.
@@ -41,73 +54,163 @@ pub enum Domain {
     Misaligned { place: u64, other: Option<u32> },
 }
 
+/// What the reading passed, or the refusal at which it ends: its number and its place.
+pub type Step<T> = Result<T, (u64, u64)>;
+
 /// What a walk over an input came to.
-pub struct Walk {
+pub struct Walk<'a> {
     /// Where the input stands.
     pub domain: Domain,
+    /// What this project must answer: the header's end, or a refusal.
+    pub answer: Step<u64>,
+    /// The entries that were passed, each by its key and its value.
+    pub entries: Vec<(&'a [u8], Tree)>,
+    /// The arrays that have arrays as items, also one that is refused.
+    pub nested: Vec<Nested>,
     /// The place of the first misaligned offset, also where the reading ends after it for another
     /// reason.
     pub misaligned: Option<u64>,
 }
 
-impl Walk {
+/// An entry's array that has arrays as items.
+pub struct Nested {
+    /// The place of its item type.
+    place: u64,
+    /// How many arrays are its items.
+    pub count: u64,
+    /// The place of the first of them.
+    pub first: u64,
+    /// The place after the last of them; nothing where it is refused before.
+    end: Option<u64>,
+}
+
+impl<'a> Walk<'a> {
+    /// A walk that came to nothing so far.
+    fn new() -> Walk<'a> {
+        let (entries, nested) = (vec![], vec![]);
+        Walk { domain: Domain::Inside, answer: Ok(0), entries, nested, misaligned: None }
+    }
+
     /// The walk over an input whose records are to be read into tables of so many rows each.
-    pub fn over(bytes: &[u8], rows: u64) -> Walk {
-        let mut walk = Walk { domain: Domain::Inside, misaligned: None };
+    pub fn over(bytes: &'a [u8], rows: u64) -> Walk<'a> {
+        let mut walk = Walk::new();
         // Wherever the reading ends, what it came to so far decides.
-        let _ = walk.go(bytes, rows);
+        walk.answer = walk.go(bytes, rows);
         walk
     }
 
-    /// Reads the input as both do, up to its end or the first refusal, and says what it came to.
-    /// Where the two tables differ it goes by this project's.
-    fn go(&mut self, bytes: &[u8], rows: u64) -> Option<()> {
+    /// Reads the input by this project's rules, up to its end or the first refusal, and says what
+    /// it came to. Up to where the input leaves the domain, both read so.
+    fn go(&mut self, bytes: &'a [u8], rows: u64) -> Step<u64> {
         if bytes.starts_with(MAGIC_KEPT) {
             self.domain = Domain::MagicKept;
-            return None;
         }
         let (mut rest, tensors, entries) = Rest::of(bytes)?;
         if tensors > rows || entries > rows {
-            self.domain = Domain::MoreRecords;
-            return None;
+            self.domain.leave(Domain::MoreRecords);
+            let counts = if tensors > rows { 2 } else { 1 };
+            return Err((6, rest.place - counts * rest.size as u64));
         }
-        let alignment = rest.entries(entries)?;
+        let alignment = self.entries(&mut rest, entries)?;
+        self.tensors(&mut rest, tensors, alignment)?;
+        // No input is so long that its data would start above 2^64 - 1 (18).
+        match self.misaligned {
+            Some(place) => Err(self.domain.end_misaligned(place)),
+            None => Ok(rest.place),
+        }
+    }
+
+    /// Passes so many entries, and gives the alignment: the last `general.alignment` decides.
+    fn entries(&mut self, rest: &mut Rest<'a>, count: u64) -> Step<u64> {
+        let mut alignment = 32;
+        for _ in 0..count {
+            let key = rest.string()?;
+            let kind = rest.kind()?;
+            let nested = rest.nested(kind);
+            let value = rest.value(kind, DEEPEST);
+            if let Some(nested) = nested {
+                let end = value.is_ok().then_some(rest.place);
+                self.nested.push(Nested { end, ..nested });
+                self.domain.leave(Domain::NestedArray);
+            }
+            let value = value?;
+            if key == b"general.alignment" {
+                alignment = match value {
+                    Tree::Scalar(kind, bits) => alignment_of(kind, bits),
+                    _ => 32,
+                };
+            }
+            self.entries.push((key, value));
+        }
+        Ok(alignment)
+    }
+
+    /// Passes so many tensors, each with the tests that come after its record.
+    fn tensors(&mut self, rest: &mut Rest<'a>, count: u64, alignment: u64) -> Step<()> {
         let mut total = 0u64;
-        for _ in 0..tensors {
+        for _ in 0..count {
             let place = rest.place;
             let (kind, lengths, offset) = rest.tensor()?;
+            // The last fields of the record are the kind and the offset.
             if self.misaligned.is_none() && !offset.is_multiple_of(alignment) {
-                // The offset is the last field of the record.
                 self.misaligned = Some(rest.place - 8);
             }
-            self.domain.come_to(kind, &lengths, place)?;
-            total = total.checked_add(measure(kind, &lengths)?.0)?;
+            block(kind).ok_or((11, rest.place - 12))?;
+            self.domain.come_to(kind, &lengths, place).ok_or((17, place))?;
+            let numbers = product(&lengths).ok_or((13, place))?;
+            measure(kind, &lengths).ok_or((14, place))?;
+            total = total.checked_add(numbers).ok_or((15, place))?;
         }
-        // No input is so long that its data would start above 2^64 - 1 (18).
-        if let Some(place) = self.misaligned {
-            let other = match self.domain {
-                Domain::OtherBlock(kind) => Some(kind),
-                _ => None,
-            };
-            self.domain = Domain::Misaligned { place, other };
+        Ok(())
+    }
+
+    /// The flat twin of the input that was walked over: each array of arrays is one of bytes there,
+    /// those of its items. Nothing where such an array is refused, since it has no end then.
+    pub fn flat(&self, bytes: &[u8]) -> Option<Vec<u8>> {
+        let big = !bytes.starts_with(b"GGUF") || bytes.starts_with(MAGIC_KEPT);
+        let mut flat = bytes.to_vec();
+        for Nested { place, first, end, .. } in &self.nested {
+            let (place, first) = (*place as usize, *first as usize);
+            // Item type 0 is four zeros in both byte orders.
+            flat[place..place + 4].fill(0);
+            let count = number(big, first - place - 4, (*end)? - first as u64);
+            flat[place + 4..first].copy_from_slice(&count);
         }
-        Some(())
+        Some(flat)
     }
 }
 
 impl Domain {
+    /// What comes first decides where an input leaves the domain.
+    fn leave(&mut self, domain: Domain) {
+        if *self == Domain::Inside {
+            *self = domain;
+        }
+    }
+
     /// The reading comes to a tensor of a kind, with lengths, at a place. Gives nothing where it
     /// ends there, since there is no such kind (11), or since the tensor is not whole blocks.
     pub fn come_to(&mut self, kind: u32, lengths: &[u64], place: u64) -> Option<()> {
         let first = lengths.first().unwrap_or(&1);
-        if !first.is_multiple_of(block(kind)?) {
-            *self = Domain::PartialBlock(place);
-            return None;
+        let is_whole = first.is_multiple_of(block(kind)?);
+        match *self {
+            Domain::Inside | Domain::OtherBlock(_) if !is_whole => {
+                *self = Domain::PartialBlock(place);
+            }
+            Domain::Inside if OTHER_BLOCKS.contains(&kind) => *self = Domain::OtherBlock(kind),
+            _ => {}
         }
-        if *self == Domain::Inside && OTHER_BLOCKS.contains(&kind) {
-            *self = Domain::OtherBlock(kind);
+        is_whole.then_some(())
+    }
+
+    /// The reading passes every other test, and an offset is misaligned: the refusal.
+    fn end_misaligned(&mut self, place: u64) -> (u64, u64) {
+        match *self {
+            Domain::Inside => *self = Domain::Misaligned { place, other: None },
+            Domain::OtherBlock(kind) => *self = Domain::Misaligned { place, other: Some(kind) },
+            _ => {}
         }
-        Some(())
+        (16, place)
     }
 }
 
@@ -151,8 +254,13 @@ pub fn is_written(kind: u32) -> bool {
 /// 2^64 - 1.
 pub fn measure(kind: u32, lengths: &[u64]) -> Option<(u64, u64)> {
     let block = block(kind)?;
-    let numbers = lengths.iter().try_fold(1u64, |product, length| product.checked_mul(*length))?;
+    let numbers = product(lengths)?;
     Some((numbers, numbers.checked_mul(BYTES[kind as usize])? / block))
+}
+
+/// The product of lengths, taken from the left; nothing where it passes 2^64 - 1 (13).
+fn product(lengths: &[u64]) -> Option<u64> {
+    lengths.iter().try_fold(1u64, |product, length| product.checked_mul(*length))
 }
 
 /// The alignment that a value of a type gives under `general.alignment`: an integer above 0 that 8
@@ -179,13 +287,14 @@ pub fn alignment_of(kind: u64, bits: u64) -> u64 {
 /// The alignment of a header that ends, or goes on, after its entries; nothing where the reading
 /// ends before.
 pub fn alignment_after_entries(bytes: &[u8]) -> Option<u64> {
-    let (mut rest, _, entries) = Rest::of(bytes)?;
-    rest.entries(entries)
+    let (mut rest, _, entries) = Rest::of(bytes).ok()?;
+    Walk::new().entries(&mut rest, entries).ok()
 }
 
 /// The bytes that are not read yet and the place of the first, with the file's byte order and the
-/// width of a size. Each method passes what it is named for, and gives nothing where the reading
-/// ends: a field is missing (1), or there is the refusal that it names.
+/// width of a size. Each method passes what it is named for, or gives the refusal at which the
+/// reading ends: a field is missing (1), or it is one that the method names.
+#[derive(Clone, Copy)]
 struct Rest<'a> {
     bytes: &'a [u8],
     place: u64,
@@ -195,81 +304,101 @@ struct Rest<'a> {
 
 impl<'a> Rest<'a> {
     /// What comes after the counts of tensors and of entries, and those two (2, 3, 4).
-    fn of(bytes: &'a [u8]) -> Option<(Rest<'a>, u64, u64)> {
+    fn of(bytes: &'a [u8]) -> Step<(Rest<'a>, u64, u64)> {
         let mut rest = Rest { bytes, place: 0, big: false, size: 8 };
         rest.big = match rest.field(4)? {
-            b"GGUF" => false,
+            b"GGUF" => bytes.starts_with(MAGIC_KEPT),
             b"FUGG" => true,
-            _ => return None,
+            b"lmgg" | b"fmgg" | b"tjgg" | b"algg" => return Err((2, 0)),
+            _ => return Err((3, 0)),
         };
         match rest.number(4)? {
             1 => rest.size = 4,
             2 | 3 => {}
-            _ => return None,
+            _ => return Err((4, 4)),
         }
         let (tensors, entries) = (rest.size()?, rest.size()?);
-        Some((rest, tensors, entries))
+        Ok((rest, tensors, entries))
     }
 
-    fn field(&mut self, width: usize) -> Option<&'a [u8]> {
-        let (field, rest) = self.bytes.split_at_checked(width)?;
+    fn field(&mut self, width: usize) -> Step<&'a [u8]> {
+        let (field, rest) = self.bytes.split_at_checked(width).ok_or((1, self.place))?;
         self.bytes = rest;
         self.place += width as u64;
-        Some(field)
+        Ok(field)
     }
 
-    fn number(&mut self, width: usize) -> Option<u64> {
-        Some(number_in(self.field(width)?, self.big))
+    fn number(&mut self, width: usize) -> Step<u64> {
+        Ok(number_in(self.field(width)?, self.big))
     }
 
-    fn size(&mut self) -> Option<u64> {
+    fn size(&mut self) -> Step<u64> {
         self.number(self.size)
     }
 
     /// A string of no more than 2^30 bytes (7).
-    fn string(&mut self) -> Option<&'a [u8]> {
-        let length = self.size().filter(|length| *length <= 1 << 30)?;
-        self.field(length as usize)
+    fn string(&mut self) -> Step<&'a [u8]> {
+        let place = self.place;
+        match self.size()? {
+            length if length > 1 << 30 => Err((7, place)),
+            length => self.field(length as usize),
+        }
     }
 
-    /// A value of a type, or an item of one, up to 12 (8). An array of arrays has no items (9).
-    /// Gives the bits of a scalar.
-    fn value(&mut self, kind: u64) -> Option<u64> {
+    /// The type of a value or of an item, up to 12 (8).
+    fn kind(&mut self) -> Step<u64> {
+        let place = self.place;
+        match self.number(4)? {
+            kind if kind > 12 => Err((8, place)),
+            kind => Ok(kind),
+        }
+    }
+
+    /// A value of a type, or an item of one. If it is an array, so many may stand in one another
+    /// from it on.
+    fn value(&mut self, kind: u64, deepest: u32) -> Step<Tree> {
         match kind {
-            8 => self.string().map(|_| 0),
-            9 => {
-                let item = self.number(4).filter(|item| *item <= 12)?;
-                let count = self.size().filter(|count| item != 9 || *count == 0)?;
-                (0..count).try_for_each(|_| self.value(item).map(|_| ())).map(|()| 0)
+            8 => Ok(Tree::Text(self.string()?.to_vec())),
+            9 => self.array(deepest),
+            _ => {
+                let bits = self.number(WIDTHS[kind as usize])?;
+                Ok(Tree::Scalar(kind, if kind == 7 { u64::from(bits != 0) } else { bits }))
             }
-            _ => self.number(*WIDTHS.get(kind as usize)?),
         }
     }
 
-    /// So many entries, and the alignment: the last `general.alignment` decides.
-    fn entries(&mut self, count: u64) -> Option<u64> {
-        let mut alignment = 32;
-        for _ in 0..count {
-            let key = self.string()?;
-            let kind = self.number(4)?;
-            let bits = self.value(kind)?;
-            if key == b"general.alignment" {
-                alignment = alignment_of(kind, bits);
-            }
+    /// An array, of which so many may stand in one another (9).
+    fn array(&mut self, deepest: u32) -> Step<Tree> {
+        let place = self.place;
+        let (item, count) = (self.kind()?, self.size()?);
+        if item == 9 && count > 0 && deepest == 1 {
+            return Err((9, place));
         }
-        Some(alignment)
+        let items: Step<_> = (0..count).map(|_| self.value(item, deepest - 1)).collect();
+        Ok(Tree::Array(item, items?))
+    }
+
+    /// What comes next, a value of this type, where it is an array that has arrays as items. Only
+    /// its item type and its count are looked at, as by the original, and nothing is passed.
+    fn nested(mut self, kind: u64) -> Option<Nested> {
+        let place = self.place;
+        let (item, count) = (self.kind().ok()?, self.size().ok()?);
+        let is_nested = kind == 9 && item == 9 && count > 0;
+        is_nested.then_some(Nested { place, count, first: self.place, end: None })
     }
 
     /// A tensor of up to four dimensions (10): its kind, its lengths, 1 beyond the last, and its
     /// offset.
-    fn tensor(&mut self) -> Option<(u32, [u64; 4], u64)> {
+    fn tensor(&mut self) -> Step<(u32, [u64; 4], u64)> {
         self.string()?;
-        let dimensions = self.number(4).filter(|count| *count <= 4)?;
+        let place = self.place;
+        let dimensions = self.number(4)?;
         let mut lengths = [1; 4];
-        for length in &mut lengths[..dimensions as usize] {
+        let given = lengths.get_mut(..dimensions as usize).ok_or((10, place))?;
+        for length in given {
             *length = self.number(8)?;
         }
-        Some((self.number(4)? as u32, lengths, self.number(8)?))
+        Ok((self.number(4)? as u32, lengths, self.number(8)?))
     }
 }
 

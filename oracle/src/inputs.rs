@@ -2,6 +2,7 @@
 
 use crate::domain::{alignment_after_entries, alignment_of, block, OTHER_BLOCKS};
 use std::collections::BTreeSet;
+use std::ops::Range;
 
 /// A small generator of random numbers (xorshift).
 pub struct Random(u64);
@@ -27,13 +28,14 @@ impl Random {
     }
 }
 
-/// A header that was made up: its bytes, its byte order, and where its fields of numbers are (place
-/// and width).
+/// A header that was made up: its bytes, its byte order, where its fields of numbers are (place
+/// and width), and how many arrays may stand in one another inside each of its arrays.
 pub struct Made {
     pub bytes: Vec<u8>,
     pub big: bool,
     version: u64,
     fields: Vec<(usize, usize)>,
+    inside: u64,
 }
 
 /// The bytes of a scalar of each value type, 0 of a string and an array.
@@ -43,7 +45,8 @@ pub const WIDTHS: [usize; 13] = [1, 1, 2, 2, 4, 4, 4, 1, 0, 0, 8, 8, 8];
 const FORMS: [(u64, bool); 6] =
     [(1, false), (2, false), (3, false), (1, true), (2, true), (3, true)];
 
-fn number(big: bool, width: usize, value: u64) -> Vec<u8> {
+/// The bytes of a number in a byte order.
+pub fn number(big: bool, width: usize, value: u64) -> Vec<u8> {
     let mut bytes = value.to_le_bytes()[..width].to_vec();
     if big {
         bytes.reverse();
@@ -107,15 +110,28 @@ fn name(random: &mut Random) -> Vec<u8> {
     }
 }
 
-fn array(made: &mut Made, random: &mut Random) {
-    let item = random.pick(&[0, 1, 2, 3, 4, 5, 6, 7, 8, 9, 10, 11, 12]);
-    let count = random.below(if item == 9 { 2 } else { 7 });
+/// An array, with as many in one another inside it as the header may have, or fewer.
+fn any_array(made: &mut Made, random: &mut Random) {
+    let inside = random.below(made.inside + 1);
+    array(made, inside, random);
+}
+
+/// An array inside which so many may stand in one another. Where none may, one of arrays has no
+/// items.
+fn array(made: &mut Made, inside: u64, random: &mut Random) {
+    let any = random.below(13);
+    let item = if inside > 0 && random.below(4) > 0 { 9 } else { any };
+    let count = match item {
+        9 if inside == 0 => 0,
+        9 => random.pick(&[0, 1, 1, 2, 2, 3]),
+        _ => random.below(7),
+    };
     made.number(4, item);
     made.size(count);
     for _ in 0..count {
         match item {
             8 => made.text(&name(random)),
-            9 => {}
+            9 => array(made, inside - 1, random),
             _ => made.scalar(item, random),
         }
     }
@@ -159,11 +175,12 @@ fn entry(made: &mut Made, random: &mut Random) {
     }
     let key = name(random);
     made.text(&key);
-    let kind = if key.starts_with(b"tok") && random.below(2) == 0 { 9 } else { random.below(13) };
+    let wants_array = made.inside > 0 || key.starts_with(b"tok");
+    let kind = if wants_array && random.below(2) == 0 { 9 } else { random.below(13) };
     made.number(4, kind);
     match kind {
         8 => made.text(&name(random)),
-        9 => array(made, random),
+        9 => any_array(made, random),
         _ => made.scalar(kind, random),
     }
 }
@@ -303,10 +320,12 @@ fn about(alignment: u64) -> BTreeSet<u64> {
 }
 
 /// A tensor at an offset, alone and beside others; each by its kind, its lengths and its offset.
-fn beside(offset: u64, alignment: u64) -> [Vec<(u64, Vec<u64>, u64)>; 7] {
+fn beside(offset: u64, alignment: u64) -> [Vec<(u64, Vec<u64>, u64)>; 8] {
     let one = || (0, vec![], offset);
     [
         vec![one()],
+        // Of too many bytes by the original's table alone.
+        vec![(9, vec![7 << 56], offset)],
         // Of size 0, and behind aligned ones.
         vec![(1, vec![], 0), (0, vec![7], alignment), (0, vec![0], offset)],
         // Of a kind without a size, and before an aligned one.
@@ -339,6 +358,76 @@ pub fn many_tensors() -> Vec<Made> {
         }
     }
     all
+}
+
+/// For every version and byte order, an array under this key with up to four others around it: of
+/// each item type, and of one that there is not, with so many items. In each array around it comes
+/// first one that is of arrays and has no items. Behind all come an entry and a tensor: their
+/// places show where the arrays end.
+pub fn every_nesting(key: &[u8], counts: Range<u64>) -> Vec<Made> {
+    let mut all = vec![];
+    for (version, big) in FORMS {
+        for around in 0..5 {
+            for item in 0..14 {
+                for count in counts.clone() {
+                    let mut made = start(version, big, 1, 2);
+                    nested_entry(&mut made, key, around, item, count);
+                    entry_of(&mut made, b"b", 4, 7, b"");
+                    tensor_of(&mut made, b"", 0, &[5], 0);
+                    all.push(made);
+                }
+            }
+        }
+    }
+    all
+}
+
+/// In version 1, little-endian, one entry without a key: up to five arrays in one another, each of
+/// one item but the last, which has none and is of u8 or of arrays. The smallest headers with
+/// arrays in arrays are among these and their prefixes.
+pub fn smallest_nestings() -> Vec<Made> {
+    let mut all = vec![];
+    for item in [0, 9] {
+        for around in 0..5 {
+            let mut made = start(1, false, 0, 1);
+            made.text(b"");
+            made.number(4, 9);
+            for _ in 0..around {
+                made.number(4, 9);
+                made.size(1);
+            }
+            made.number(4, item);
+            made.size(0);
+            all.push(made);
+        }
+    }
+    all
+}
+
+/// An entry whose value is an array with so many others around it.
+fn nested_entry(made: &mut Made, key: &[u8], around: u64, item: u64, count: u64) {
+    made.text(key);
+    made.number(4, 9);
+    for _ in 0..around {
+        made.number(4, 9);
+        made.size(2);
+        made.number(4, 9);
+        made.size(0);
+    }
+    made.number(4, item);
+    made.size(count);
+    for index in 0..count {
+        match item {
+            8 => made.text(&b"xy"[index as usize..]),
+            9 => {
+                made.number(4, 2);
+                made.size(0);
+            }
+            // There is no such type.
+            13 => {}
+            _ => made.number(WIDTHS[item as usize], index + 1),
+        }
+    }
 }
 
 /// The keys that the questions look up, and keys that are almost those.
@@ -431,6 +520,11 @@ fn asked_entry(made: &mut Made, random: &mut Random) {
     let listed = random.pick(&FILE_TYPES);
     let number = random.pick(&[listed, listed, listed, any]);
     let text = random.pick(&TEXTS);
+    if made.inside > 0 && random.below(3) == 0 {
+        made.text(key);
+        made.number(4, 9);
+        return any_array(made, random);
+    }
     entry_of(made, key, kind, number, text);
 }
 
@@ -458,6 +552,28 @@ pub fn every_answer() -> Vec<Made> {
     all
 }
 
+/// For every version and byte order: under each key that is looked up an array of arrays, behind an
+/// entry that answers, or before it.
+pub fn nested_answers() -> Vec<Made> {
+    let mut all = vec![];
+    for (version, big) in FORMS {
+        for (key, kind) in [(ARCHITECTURE, 8), (FILE_TYPE, 4), (ALIGNMENT, 4)] {
+            for is_last in [false, true] {
+                let mut made = start(version, big, 0, 2);
+                if is_last {
+                    entry_of(&mut made, key, kind, 24, b"phi");
+                }
+                nested_entry(&mut made, key, 1, 4, 1);
+                if !is_last {
+                    entry_of(&mut made, key, kind, 24, b"phi");
+                }
+                all.push(made);
+            }
+        }
+    }
+    all
+}
+
 /// A header with up to five entries.
 pub fn header(random: &mut Random) -> Made {
     with_entries(random, 0, 6, entry)
@@ -471,7 +587,7 @@ pub fn long_header(random: &mut Random) -> Made {
 
 /// The front of a header, up to its first entry.
 fn start(version: u64, big: bool, tensors: u64, entries: u64) -> Made {
-    let mut made = Made { bytes: vec![], big, version, fields: vec![(0, 4)] };
+    let mut made = Made { bytes: vec![], big, version, fields: vec![(0, 4)], inside: 0 };
     made.bytes.extend_from_slice(if big { b"FUGG" } else { b"GGUF" });
     made.number(4, version);
     made.size(tensors);
@@ -494,8 +610,9 @@ pub fn kept_fronts() -> Vec<Vec<u8>> {
 }
 
 /// A header of any version and byte order, with up to three tensors, and `least` entries or fewer
-/// than `spread` more, each made by `entry`. Mostly all offsets are aligned, since the readers
-/// differ by intent where one is not.
+/// than `spread` more, each made by `entry`. Mostly no array has arrays as items, and all offsets
+/// are aligned, since the readers differ by intent where one has or is not. Where an array has,
+/// mostly as many stand in one another as are read, and at times one more.
 fn with_entries(
     random: &mut Random,
     least: u64,
@@ -507,6 +624,7 @@ fn with_entries(
     let tensors = random.below(4);
     let entries = least + random.below(spread);
     let mut made = start(version, big, tensors, entries);
+    made.inside = random.pick(&[0, 0, 0, 0, 0, 0, 0, 0, 0, 0, 0, 0, 3, 3, 4]);
     (0..entries).for_each(|_| entry(&mut made, random));
     // Where the entries are refused, the offsets are not looked at.
     let alignment = alignment_after_entries(&made.bytes).unwrap_or(32);

@@ -14,6 +14,7 @@ mod domain;
 mod inputs;
 mod questions;
 mod sample;
+mod tree;
 mod writers;
 
 // The original's writer names these by its own crate.
@@ -21,8 +22,8 @@ use original::{FILE_MAGIC_GGUF_LE, GGUF_VERSION_V1, GGUF_VERSION_V2, GGUF_VERSIO
 
 use compare::Agreed;
 use inputs::{
-    asked_header, damaged, every_answer, every_kind, every_offset, header, kept_fronts,
-    long_header, many_tensors, Made, Random,
+    asked_header, damaged, every_answer, every_kind, every_nesting, every_offset, header,
+    kept_fronts, long_header, many_tensors, nested_answers, smallest_nestings, Made, Random,
 };
 use questions::Asked;
 
@@ -90,9 +91,28 @@ fn compare_readers(headers: u64) -> Readers {
         let made = long_header(&mut random);
         on_copies(&mut readers, &made, 3, 7, &mut random);
     }
+    on_nestings(&mut readers);
     println!("The readers");
     readers.made.print();
     readers
+}
+
+/// Arrays in arrays, also under a key whose arrays are capped, where the outermost has one item
+/// more than is kept; and copies of them, which have a seed of their own.
+fn on_nestings(readers: &mut Readers) {
+    let mut random = Random::new(0xA44A_715A_44A7_15A4);
+    for made in smallest_nestings() {
+        for end in 0..=made.bytes.len() {
+            readers.on(&made, &made.bytes[..end], 3);
+        }
+    }
+    let capped = every_nesting(b"tokenizer.x", 0..3);
+    for made in every_nesting(b"a", 0..2).into_iter().chain(capped) {
+        readers.on(&made, &made.bytes, 1);
+    }
+    for made in every_nesting(b"a", 2..3) {
+        on_copies(readers, &made, 1, 1, &mut random);
+    }
 }
 
 /// Every input of up to two bytes, and every magic that stands for something.
@@ -129,7 +149,7 @@ fn compare_questions(headers: u64, asked: Asked, kept: Agreed) -> Agreed {
     let mut random = Random::new(0x00A5_4ED0_FA11_7E57);
     let mut readers = Readers { made: Agreed::default(), kept };
     readers.made.asked = asked;
-    for made in every_answer() {
+    for made in every_answer().into_iter().chain(nested_answers()) {
         readers.on(&made, &made.bytes, 3);
     }
     for _ in 0..headers {

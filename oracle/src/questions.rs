@@ -8,6 +8,7 @@
 //! gives the number, or unknown in all those cases.
 
 use crate::original::GGUFModel;
+use crate::tree::Tree;
 use serde_json::Value;
 use std::collections::BTreeMap;
 use std::panic::{catch_unwind, AssertUnwindSafe};
@@ -62,17 +63,19 @@ pub struct Asked {
     headers: u64,
     refused: u64,
     refused_here: u64,
+    /// How many have arrays in arrays, accepted and refused.
+    nested: u64,
+    nested_refused: u64,
 }
 
 /// Keys to look up: those that mean something, and others that the inputs have.
 const KEYS: [&str; 6] =
     ["general.alignment", "general.architecture", "general.file_type", "tokenizer.x", "a", ""];
 
-/// An entry in words, with all items of its array: so a float that is not a number equals itself.
+/// An entry in words, with all items of its arrays, and the bits of floats: so one that is not a
+/// number equals itself.
 pub fn in_words(entry: Entry<'_>) -> String {
-    let array = entry.value().as_array();
-    let items: Vec<_> = array.iter().flat_map(|array| array.iter_all()).collect();
-    format!("{entry:?} {items:?}")
+    format!("{entry:?} {:?}", Tree::of(entry.value()))
 }
 
 fn one_more(counts: &mut BTreeMap<String, u64>, what: String) {
@@ -99,10 +102,40 @@ impl Asked {
     /// A refusal that the original does not have, whatever it says instead. The lookups that it
     /// does not have either give it too.
     pub fn on_own_refusal(&mut self, bytes: &[u8], refusal: Refusal) {
+        Asked::refuse_all(bytes, refusal);
+        self.refused_here += 1;
+    }
+
+    /// A refusal in or after arrays in arrays, the first of which the original refuses.
+    pub fn on_nested_refusal(&mut self, bytes: &[u8], refusal: Refusal) {
+        Asked::refuse_all(bytes, refusal);
+        self.nested_refused += 1;
+    }
+
+    /// Panics where a question says another thing of an input that has arrays in arrays, all of
+    /// which are passed, than of its flat twin. A lookup gives the entry that the reader gives.
+    pub fn on_nested(&mut self, bytes: &[u8], flat: &[u8]) {
+        let header = match read(bytes) {
+            Ok(header) => header,
+            Err(refusal) => return self.on_nested_refusal(bytes, refusal),
+        };
+        assert_eq!(model_family(bytes), model_family(flat), "{bytes:?}");
+        assert_eq!(file_type(bytes), file_type(flat), "{bytes:?}");
+        for key in KEYS {
+            assert_eq!(find_string(bytes, key), find_string(flat, key), "{key}: {bytes:?}");
+            let found = find(bytes, key).map(|entry| entry.map(in_words));
+            let wanted = header.entries().rfind(|entry| entry.key() == key.as_bytes());
+            assert_eq!(found, Ok(wanted.map(in_words)), "{key}: {bytes:?}");
+        }
+        Asked::of_rows(bytes);
+        self.nested += 1;
+    }
+
+    /// Panics where one of the two questions, or a lookup, does not give the reader's refusal.
+    fn refuse_all(bytes: &[u8], refusal: Refusal) {
         Asked::refuse(bytes, refusal);
         assert_eq!(find(bytes, "").err(), Some(refusal), "{bytes:?}");
         assert_eq!(find_string(bytes, ""), Err(StringError::Refused(refusal)), "{bytes:?}");
-        self.refused_here += 1;
     }
 
     /// Panics where one of the two questions does not give the reader's refusal.
@@ -199,6 +232,10 @@ impl Asked {
         println!("{:>9}  {what}", self.refused);
         let what = "headers refused here with 16 or 17, and both questions and the lookups alike";
         println!("{:>9}  {what}", self.refused_here);
+        let what = "headers with arrays in arrays refused here, and both questions and the lookups";
+        println!("{:>9}  {what} alike", self.nested_refused);
+        let what = "headers with arrays in arrays accepted here, both questions as of the flat";
+        println!("{:>9}  {what} twin, and the lookups as the reader", self.nested);
         println!("{:>9}  headers asked for both", self.headers);
         println!("{:>9}  answers that agree", self.same.values().sum::<u64>());
         println!("{:>9}  answers that differ by intent", self.by_intent.values().sum::<u64>());

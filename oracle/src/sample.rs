@@ -130,7 +130,7 @@ impl Sample {
     /// its answer. Texts that are not UTF-8 are outside, and show by the mark that the original
     /// puts in their place.
     fn offer(&mut self, bytes: &[u8]) {
-        let Walk { domain, misaligned } = Walk::over(bytes, ROWS);
+        let Walk { domain, misaligned, .. } = Walk::over(bytes, ROWS);
         if bytes.len() > LONGEST || domain != Domain::Inside || self.seen.contains(bytes) {
             return;
         }
@@ -164,8 +164,9 @@ impl Sample {
         }
     }
 
+    /// Whether there are enough of every answer. The original refuses 9 outside the domain alone.
     fn enough(&self) -> bool {
-        [0, 1, 4, 7, 8, 9, 10, 11, 13, 14, 15]
+        [0, 1, 4, 7, 8, 10, 11, 13, 14, 15]
             .iter()
             .all(|class| self.taken.get(class).copied().unwrap_or(0) >= wanted(*class))
     }

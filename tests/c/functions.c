@@ -279,6 +279,103 @@ static void big_endian_is_version_3(void) {
     }
 }
 
+/* What is printed of an array: where it stands, how its file writes numbers, and the text so far. */
+typedef struct printing {
+    const uint8_t *file;
+    uint64_t at;
+    int big;
+    unsigned size; /* the bytes of a size */
+    char text[128];
+} printing;
+
+static uint64_t number(printing *out, unsigned width) {
+    uint64_t value = 0;
+    for (unsigned i = 0; i < width; i++)
+        value = value << 8 | out->file[out->at + (out->big ? i : width - 1 - i)];
+    out->at += width;
+    return value;
+}
+
+static void print(printing *out, const char *words) {
+    strncat(out->text, words, sizeof out->text - strlen(out->text) - 1);
+}
+
+/* So many items of a type, bytes, strings or arrays, which stand one after the other. */
+static void print_items(printing *out, uint64_t type, uint64_t count) {
+    print(out, "[");
+    for (uint64_t i = 0; i < count; i++) {
+        char words[32] = "";
+        print(out, i ? ", " : "");
+        if (type == SP_TYPE_ARRAY) {
+            uint64_t inner = number(out, 4);
+            print_items(out, inner, number(out, out->size));
+            continue;
+        }
+        uint64_t value = number(out, type == SP_TYPE_STRING ? out->size : 1);
+        if (type == SP_TYPE_STRING) {
+            memcpy(words, out->file + out->at, value < 31 ? value : 31);
+            out->at += value;
+        } else
+            snprintf(words, sizeof words, "%u", (unsigned)value);
+        print(out, words);
+    }
+    print(out, "]");
+}
+
+/* A sheet of one entry, whose value is a list of lists: written, read back and printed. */
+static void check_printed(const uint8_t *made, size_t length, uint32_t version, uint32_t order,
+                          const char *text) {
+    uint64_t answer[SP_ANSWER_WORDS];
+    uint8_t file[256];
+    sp_entry entry[1];
+    CHECK(sp_write(made, length, version, order, 32, file, sizeof file, answer) == 0);
+    uint64_t end = answer[SP_WRITTEN_END];
+    CHECK(sp_read(file, end, 3, 39, 1, entry, 1, NULL, 0, answer) == 0);
+    CHECK(entry->type == SP_TYPE_ARRAY && entry->item_type == SP_TYPE_ARRAY);
+    printing out = {file, entry->first, order != SP_LITTLE_ENDIAN, version == 1 ? 4 : 8, ""};
+    print_items(&out, entry->item_type, entry->count);
+    CHECK(strcmp(out.text, text) == 0 && out.at == end);
+    /* Wherever it is cut, the header does not end inside the bytes. */
+    for (uint64_t i = 0; i < end; i++)
+        CHECK(sp_measure(file, i, 3, 39, answer) == SP_CUT_OFF);
+}
+
+static void lists_of_lists(void) {
+    /* [[1, 2], [3]] */
+    static const uint8_t two[] = {1, 0, 0, 0, 25, 1, 0, 0, 0, 1, 'a', 9, 9, 0, 0, 0,
+                                  2, 0, 0, 0, 0,  2, 1, 2, 0, 0, 0,   0, 1, 3};
+    /* [[[[x, yz]]], []] */
+    static const uint8_t four[] = {1, 0, 0, 0, 43, 1, 0, 0, 0, 1, 'a', 9, 9,   0, 0, 0,
+                                   2, 9, 0, 0, 0,  1, 9, 0, 0, 0, 1,   8, 0,   0, 0, 2,
+                                   0, 0, 0, 1, 'x', 0, 0, 0, 2, 'y', 'z', 0, 0, 0, 0, 0};
+    for (uint32_t version = 1; version <= 3; version++)
+        for (uint32_t order = SP_LITTLE_ENDIAN; order <= SP_BIG_ENDIAN_MAGIC; order++) {
+            if (order == SP_BIG_ENDIAN && version < 3)
+                continue;
+            check_printed(two, sizeof two, version, order, "[[1, 2], [3]]");
+            check_printed(four, sizeof four, version, order, "[[[[x, yz]]], []]");
+        }
+}
+
+/* An item type of arrays is bad in the fourth array of a sheet, and without items good before it. */
+static void arrays_are_four_deep(void) {
+    uint8_t made[] = {1, 0, 0, 0, 27, 1, 0, 0, 0, 1, 'a', 9, 9, 0, 0, 0, 1,
+                      9, 0, 0, 0, 1,  9, 0, 0, 0, 1, 9,   0, 0, 0, 0};
+    uint64_t answer[SP_ANSWER_WORDS];
+    uint8_t file[128] = {0};
+    CHECK(sp_write(made, sizeof made, 1, 0, 32, file, sizeof file, answer) == SP_BAD_SHEET);
+    CHECK(answer[SP_ANSWER_PLACE] == 1 && file[0] == 0);
+    made[27] = SP_TYPE_U8;
+    CHECK(sp_write(made, sizeof made, 1, 0, 32, file, sizeof file, answer) == 0);
+    /* In a file it is good there too, and refused where it has an item. */
+    uint64_t end = answer[SP_WRITTEN_END];
+    file[end - 8] = SP_TYPE_ARRAY;
+    CHECK(sp_measure(file, end, 3, 39, answer) == 0);
+    file[end - 4] = 1;
+    CHECK(sp_measure(file, end, 3, 39, answer) == SP_NESTED_ARRAY);
+    CHECK(answer[SP_ANSWER_PLACE] == end - 8);
+}
+
 /* Every number has words of its own, and what is no number has others. */
 static void reasons(void) {
     static const uint64_t numbers[] = {0,  1,  2,  3,   4,   5,  6,  7,  8,  9,  10, 11, 12,
@@ -314,6 +411,8 @@ int main(void) {
     more_bytes_change_nothing();
     byte_orders();
     big_endian_is_version_3();
+    lists_of_lists();
+    arrays_are_four_deep();
     reasons();
     versions_agree();
     return failed;

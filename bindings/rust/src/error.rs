@@ -69,19 +69,15 @@ impl Error for RangeError {}
 #[derive(Clone, Debug, PartialEq, Eq, Hash)]
 #[non_exhaustive]
 pub enum SheetError {
-    /// An item of an array is not of the array's item type.
+    /// An item of an array, or of an array inside it, is not of the item type of the array that it
+    /// is in.
     ItemType {
-        /// The key of the array.
+        /// The key of the entry.
         key: Vec<u8>,
-        /// The array's item type.
+        /// The item type of the array that the item is in.
         expected: Type,
         /// The item's own type.
         found: Type,
-    },
-    /// An item of an array is an array.
-    NestedArray {
-        /// The key of the array.
-        key: Vec<u8>,
     },
     /// An entry or a tensor takes more than 2^32 - 1 bytes, the most that a sheet can hold of one.
     TooLong,
@@ -92,10 +88,7 @@ impl fmt::Display for SheetError {
         match self {
             SheetError::ItemType { key, expected, found } => {
                 let key = String::from_utf8_lossy(key);
-                write!(f, "the array {key:?} of {expected} has an item of type {found}")
-            }
-            SheetError::NestedArray { key } => {
-                write!(f, "the array {:?} has an array as an item", String::from_utf8_lossy(key))
+                write!(f, "under {key:?}, an array of {expected} has an item of type {found}")
             }
             SheetError::TooLong => {
                 f.write_str("an entry or a tensor takes more than 2^32 - 1 bytes")

@@ -92,7 +92,7 @@ impl Options {
     }
 
     /// Keeps at most so many items of an array under a key that starts with `tokenizer.`. Every
-    /// item is checked all the same.
+    /// item is checked all the same. An item that is an array is kept with all its own items.
     pub const fn cap(mut self, items: u64) -> Options {
         self.cap = items;
         self

@@ -8,6 +8,9 @@
 //!
 //! A [`Sheet`] describes a header to write, and [`Sheet::write`] writes it.
 //!
+//! The items of an array may be arrays, which stand in one another four deep at most, the outermost
+//! counted: [`Array::iter`] gives those that are read, and [`Array::new`] makes those to write.
+//!
 //! The reading and writing is done by the functions of `libstrutpebble.a`, each of which is proved
 //! to answer as the format's definition says, on every input. This crate turns their numbers into
 //! Rust's own types. It needs `alloc`, and no `std`.

@@ -27,7 +27,8 @@ pub enum Reason {
     StringTooLong,
     /// 8: the type of a value or of an array's items is above 12.
     UnknownType,
-    /// 9: the items of an array that is not empty are arrays.
+    /// 9: arrays stand in one another more than four deep, the outermost counted: the items of a
+    /// fourth that is not empty are arrays.
     NestedArray,
     /// 10: a tensor has more than four dimensions.
     TooManyDimensions,
@@ -52,7 +53,8 @@ pub enum Reason {
     /// 30: the version to write is not 1, 2 or 3, or it is 1 or 2 and the byte order is
     /// [`ByteOrder::Big`](crate::ByteOrder::Big), which is there in version 3 only.
     VersionNotWritten,
-    /// 31: the sheet is not well formed.
+    /// 31: the sheet is not well formed; among other reasons, because the item type of an array
+    /// inside three others is [`Type::Array`](crate::Type::Array), whatever its count.
     BadSheet,
     /// 32: the alignment to write is 0, or not a multiple of 8.
     BadAlignment,
@@ -83,7 +85,7 @@ const REASONS: [(Reason, u64, &str); 28] = [
     (Reason::TooFewRows, 6, "there are more tensors, or more entries, than rows for them"),
     (Reason::StringTooLong, 7, "a string has more than 2^30 bytes"),
     (Reason::UnknownType, 8, "there is no such type of value"),
-    (Reason::NestedArray, 9, "the items of an array are arrays"),
+    (Reason::NestedArray, 9, "arrays stand in one another more than 4 deep"),
     (Reason::TooManyDimensions, 10, "a tensor has more than 4 dimensions"),
     (Reason::UnknownKind, 11, "there is no such kind of tensor"),
     (Reason::KindAboveCeiling, 12, "the kind of a tensor is above the highest that is accepted"),

@@ -8,6 +8,9 @@ use alloc::collections::BTreeMap;
 use alloc::vec;
 use alloc::vec::Vec;
 
+/// How many arrays may stand in one another, the outermost counted.
+const DEEPEST: usize = 4;
+
 /// What a header is to hold, entry by entry and tensor by tensor.
 ///
 /// Entries are sorted by their keys, and tensors stay in the order in which they are added. A sheet
@@ -47,17 +50,19 @@ impl Sheet {
     }
 
     /// Adds a metadata entry, in place of one of the same key. An array that was read from a header
-    /// is added with all its items, whatever the reader's cap was.
+    /// is added with all its items, whatever the reader's cap was; one of other values is made by
+    /// [`Array::new`](crate::Array::new), and [`array`](Sheet::array) says what arrays may hold.
     pub fn entry(self, key: impl AsRef<[u8]>, value: Value<'_>) -> Sheet {
         let key = key.as_ref();
-        match value {
-            Value::Array(array) => self.array(key, array.item_type(), array.iter_all()),
-            single => self.with_entry(key, single_record(key, single)),
-        }
+        self.with_entry(key, value_record(key, value))
     }
 
     /// Adds an entry whose value is an array, in place of one of the same key. Every item must be
-    /// of the item type, and none may be an array.
+    /// of the item type, and so in each array inside it.
+    ///
+    /// Arrays may stand in one another four deep, this one counted. The writer refuses (31) a
+    /// fourth whose item type is [`Type::Array`], even where it has no items, which the reader
+    /// accepts.
     pub fn array<'v>(
         self,
         key: impl AsRef<[u8]>,
@@ -121,31 +126,23 @@ impl Sheet {
     }
 }
 
-/// The record of an entry whose value is a scalar or a string.
-fn single_record(key: &[u8], value: Value<'_>) -> Result<Vec<u8>, SheetError> {
+/// The record of an entry.
+fn value_record(key: &[u8], value: Value<'_>) -> Result<Vec<u8>, SheetError> {
     let mut record = Record::new(1, key)?;
     record.push(&[value.value_type() as u8])?;
-    record.value(value)?;
+    record.value(value, 0)?;
     Ok(record.bytes)
 }
 
-/// The record of an entry whose value is an array.
+/// The record of an entry whose value is an array of these items.
 fn array_record<'v>(
     key: &[u8],
     item_type: Type,
     items: impl IntoIterator<Item = Value<'v>>,
 ) -> Result<Vec<u8>, SheetError> {
     let mut record = Record::new(1, key)?;
-    record.push(&[Type::Array as u8, item_type as u8])?;
-    let count_at = record.bytes.len();
-    record.push(&[0; 4])?;
-    let mut count: u32 = 0;
-    for item in items {
-        record.item(item_type, item)?;
-        // Every item takes a byte of the record or more, so their count fits as its length does.
-        count += 1;
-    }
-    record.bytes[count_at..][..4].copy_from_slice(&count.to_be_bytes());
+    record.push(&[Type::Array as u8])?;
+    record.array(item_type, items, 0)?;
     Ok(record.bytes)
 }
 
@@ -188,8 +185,9 @@ impl<'n> Record<'n> {
         self.push(text)
     }
 
-    /// A scalar in its own width, or a string with nothing in front of it.
-    fn value(&mut self, value: Value<'_>) -> Result<(), SheetError> {
+    /// A scalar in its own width, a string with nothing in front of it, or an array inside so many
+    /// others.
+    fn value(&mut self, value: Value<'_>, around: usize) -> Result<(), SheetError> {
         match value {
             Value::U8(n) => self.push(&[n]),
             Value::I8(n) => self.push(&n.to_be_bytes()),
@@ -203,18 +201,45 @@ impl<'n> Record<'n> {
             Value::U64(n) => self.push(&n.to_be_bytes()),
             Value::I64(n) => self.push(&n.to_be_bytes()),
             Value::F64(x) => self.push(&x.to_bits().to_be_bytes()),
-            Value::Array(_) => Err(SheetError::NestedArray { key: self.name.to_vec() }),
+            Value::Array(array) => self.array(array.item_type(), array.iter_all(), around),
         }
     }
 
-    fn item(&mut self, expected: Type, item: Value<'_>) -> Result<(), SheetError> {
+    /// An array inside so many others: its item type, its count and its items.
+    fn array<'v>(
+        &mut self,
+        item_type: Type,
+        items: impl IntoIterator<Item = Value<'v>>,
+        around: usize,
+    ) -> Result<(), SheetError> {
+        self.push(&[item_type as u8])?;
+        let count_at = self.bytes.len();
+        self.push(&[0; 4])?;
+        // The writer refuses this item type here, whatever the count. So the items are not looked
+        // at, and calls go no deeper than this, however deep an array is that is lent.
+        if item_type == Type::Array && around + 1 == DEEPEST {
+            return Ok(());
+        }
+        let mut count: u32 = 0;
+        for item in items {
+            self.item(item_type, item, around + 1)?;
+            // Every item takes a byte of the record or more, so their count fits as its length
+            // does.
+            count += 1;
+        }
+        self.bytes[count_at..][..4].copy_from_slice(&count.to_be_bytes());
+        Ok(())
+    }
+
+    /// An item of an array, inside so many arrays.
+    fn item(&mut self, expected: Type, item: Value<'_>, around: usize) -> Result<(), SheetError> {
         let found = item.value_type();
-        if found != expected && found != Type::Array {
+        if found != expected {
             return Err(SheetError::ItemType { key: self.name.to_vec(), expected, found });
         }
         match item {
             Value::String(bytes) => self.text(bytes),
-            other => self.value(other),
+            other => self.value(other, around),
         }
     }
 }

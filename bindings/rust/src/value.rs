@@ -1,4 +1,4 @@
-//! Values of entries, and items of arrays, as parts of the prefix.
+//! Values of entries, and items of arrays: parts of the prefix, or values that are lent.
 
 use crate::front::Dialect;
 use core::fmt;
@@ -134,8 +134,7 @@ impl<'a> Value<'a> {
                 item_type: Type::of(words[1]),
                 len: words[2],
                 kept: words[3],
-                items: &prefix[words[4] as usize..],
-                dialect,
+                items: Source::Read(Part { bytes: &prefix[words[4] as usize..], dialect }),
             }),
             scalar => Value::scalar(scalar, words[1]),
         }
@@ -244,36 +243,69 @@ impl<'a> Value<'a> {
     }
 }
 
-/// An array. Its items are read from the prefix as they are asked for. All of them were checked,
-/// also those that are not kept.
+/// An array. The items of one that was read are taken from the prefix as they are asked for. All of
+/// them were checked, also those that are not kept and those of arrays inside it.
 #[derive(Clone, Copy)]
 pub struct Array<'a> {
     item_type: Type,
     len: u64,
     kept: u64,
-    /// The prefix from the first item on.
-    items: &'a [u8],
-    dialect: Dialect,
+    items: Source<'a>,
+}
+
+/// Where the items of an array are, from the first or the next one on.
+#[derive(Clone, Copy)]
+enum Source<'a> {
+    /// In the prefix.
+    Read(Part<'a>),
+    /// In the caller's slice.
+    Lent(&'a [Value<'a>]),
 }
 
 impl<'a> Array<'a> {
-    /// The type of every item. It may be [`Type::Array`] where there are no items.
+    /// An array of values that are lent, to put into a [`Sheet`](crate::Sheet) or to compare with
+    /// what was read.
+    ///
+    /// Whether each item is of the item type is not checked here; a sheet checks it. In a file,
+    /// arrays stand in one another four deep at most, the outermost counted. A deeper one can be
+    /// made here, and the writer refuses it (31).
+    ///
+    /// ```
+    /// use strutpebble::{Array, Sheet, Type, Value};
+    ///
+    /// let (first, second) = ([Value::U8(1), Value::U8(2)], [Value::U8(3)]);
+    /// let lists = [Array::new(Type::U8, &first), Array::new(Type::U8, &second)];
+    /// let lists = lists.map(Value::Array);
+    /// let list = Value::Array(Array::new(Type::Array, &lists));
+    /// let file = Sheet::new().entry("list of lists", list).to_vec()?;
+    ///
+    /// let header = strutpebble::read(&file)?;
+    /// assert_eq!(header.get("list of lists"), Some(list));
+    /// # Ok::<(), Box<dyn std::error::Error>>(())
+    /// ```
+    pub const fn new(item_type: Type, items: &'a [Value<'a>]) -> Array<'a> {
+        let len = items.len() as u64;
+        Array { item_type, len, kept: len, items: Source::Lent(items) }
+    }
+
+    /// The type of every item. Where it is [`Type::Array`], each item has an item type of its own.
     pub fn item_type(&self) -> Type {
         self.item_type
     }
 
-    /// How many items the file has.
+    /// How many items there are, in the file or lent.
     pub fn len(&self) -> u64 {
         self.len
     }
 
-    /// Whether the file has no item.
+    /// Whether there is no item.
     pub fn is_empty(&self) -> bool {
         self.len == 0
     }
 
     /// How many items are kept: all, except in a tokenizer's arrays, of which the reader keeps as
-    /// many as [`Options::cap`](crate::Options::cap) says.
+    /// many as [`Options::cap`](crate::Options::cap) says. An array inside another keeps all of
+    /// its own.
     pub fn kept(&self) -> u64 {
         self.kept
     }
@@ -283,17 +315,18 @@ impl<'a> Array<'a> {
         self.first(self.kept)
     }
 
-    /// All items of the file, whatever the cap.
+    /// All items, whatever the cap.
     pub fn iter_all(&self) -> Items<'a> {
         self.first(self.len)
     }
 
     fn first(&self, left: u64) -> Items<'a> {
-        Items { item_type: self.item_type, left, rest: self.items, dialect: self.dialect }
+        Items { item_type: self.item_type, left, rest: self.items }
     }
 }
 
-/// Arrays are equal where their items' types, their items and their kept counts are.
+/// Arrays are equal where their items' types, their items and their kept counts are. Comparing goes
+/// as deep as both of them do.
 impl PartialEq for Array<'_> {
     fn eq(&self, other: &Array<'_>) -> bool {
         self.item_type == other.item_type
@@ -317,27 +350,12 @@ impl<'a> IntoIterator for Array<'a> {
     }
 }
 
-/// An iterator over the items of an array, as scalars and strings.
+/// An iterator over the items of an array.
 #[derive(Clone)]
 pub struct Items<'a> {
     item_type: Type,
     left: u64,
-    rest: &'a [u8],
-    dialect: Dialect,
-}
-
-impl<'a> Items<'a> {
-    /// The next bytes. The reader saw every item of an array inside the prefix.
-    fn take(&mut self, n: usize) -> &'a [u8] {
-        let (taken, rest) = self.rest.split_at(n);
-        self.rest = rest;
-        taken
-    }
-
-    fn number(&mut self, width: usize) -> u64 {
-        let bytes = self.take(width);
-        self.dialect.byte_order.number(bytes)
-    }
+    rest: Source<'a>,
 }
 
 impl<'a> Iterator for Items<'a> {
@@ -345,20 +363,85 @@ impl<'a> Iterator for Items<'a> {
 
     fn next(&mut self) -> Option<Value<'a>> {
         self.left = self.left.checked_sub(1)?;
-        Some(match self.item_type.width() {
-            Some(width) => Value::scalar(self.item_type, self.number(width)),
-            None => {
-                let len = self.number(self.dialect.size_width);
-                Value::String(self.take(len as usize))
+        match &mut self.rest {
+            Source::Read(part) => Some(part.item(self.item_type)),
+            Source::Lent(values) => {
+                let (first, others) = values.split_first()?;
+                *values = others;
+                Some(*first)
             }
-        })
+        }
     }
 
     fn size_hint(&self) -> (usize, Option<usize>) {
-        // Every item has a byte in the prefix, so their number fits a usize.
+        // Every item has a byte or more in the prefix, or is a value in memory, so their number
+        // fits a usize.
         (self.left as usize, Some(self.left as usize))
     }
 }
 
 impl ExactSizeIterator for Items<'_> {}
 impl FusedIterator for Items<'_> {}
+
+/// A part of the prefix, from what is to be taken next on.
+///
+/// Only items of accepted arrays are taken. The reader saw all of them inside the prefix, and those
+/// of the arrays inside them.
+#[derive(Clone, Copy)]
+struct Part<'a> {
+    bytes: &'a [u8],
+    dialect: Dialect,
+}
+
+impl<'a> Part<'a> {
+    fn take(&mut self, n: usize) -> &'a [u8] {
+        let (taken, rest) = self.bytes.split_at(n);
+        self.bytes = rest;
+        taken
+    }
+
+    fn number(&mut self, width: usize) -> u64 {
+        let bytes = self.take(width);
+        self.dialect.byte_order.number(bytes)
+    }
+
+    fn size(&mut self) -> u64 {
+        self.number(self.dialect.size_width)
+    }
+
+    fn item(&mut self, item_type: Type) -> Value<'a> {
+        match item_type.width() {
+            Some(width) => Value::scalar(item_type, self.number(width)),
+            None if item_type == Type::Array => Value::Array(self.array()),
+            None => {
+                let length = self.size();
+                Value::String(self.take(length as usize))
+            }
+        }
+    }
+
+    /// An array inside another: its item type, its count and its items, which are passed here.
+    fn array(&mut self) -> Array<'a> {
+        let item_type = Type::of(self.number(4));
+        let len = self.size();
+        let array = Array { item_type, len, kept: len, items: Source::Read(*self) };
+        self.pass(item_type, len);
+        array
+    }
+
+    /// Passes so many items: scalars all at once, because they have one width, and strings and
+    /// arrays one by one. For an array inside this one it is called again, which goes no deeper
+    /// than the four arrays in one another that the reader accepts.
+    fn pass(&mut self, item_type: Type, count: u64) {
+        match item_type.width() {
+            Some(width) => {
+                self.take(width * count as usize);
+            }
+            None => {
+                for _ in 0..count {
+                    self.item(item_type);
+                }
+            }
+        }
+    }
+}

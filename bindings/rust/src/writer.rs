@@ -85,7 +85,8 @@ impl WriteOptions {
 
     /// The header that a sheet describes, and zeros up to the start of its data.
     ///
-    /// Allocates, beside the sheet's bytes, at most twice as many, 64 more, and one alignment more.
+    /// Allocates, beside the sheet's bytes, at most 2.4 times as many, 64 more, and one alignment
+    /// more.
     /// Where there is no memory for it, the writer's refusal of a short output (38) is given.
     pub fn to_vec(&self, sheet: &Sheet) -> Result<Vec<u8>, WriteError> {
         let sheet = sheet.bytes()?;
@@ -103,11 +104,13 @@ impl WriteOptions {
     /// Zeros, enough for the header of a sheet of so many bytes and its padding; none where there
     /// is no memory for so many.
     ///
-    /// What grows most from a sheet to a header is a string of no bytes in an array, from a length
-    /// of 4 bytes to one of 8. Magic, version, counts and an alignment that is added take 57 bytes.
+    /// What grows most from a sheet to a header is an array of no items in another: its item type
+    /// from 1 byte to 4, and its count from 4 to 8, so from 5 bytes to 12. Magic, version, counts
+    /// and an alignment that is added take 57 bytes.
     fn room(&self, sheet_len: usize) -> Vec<u8> {
         let mut out = Vec::new();
-        let most = sheet_len.checked_mul(2).and_then(|twice| twice.checked_add(57));
+        // The sheet's first byte, which no record has, makes up for what the division drops.
+        let most = sheet_len.checked_mul(12).and_then(|parts| (parts / 5).checked_add(57));
         let padded = most.and_then(|most| most.checked_next_multiple_of(self.alignment as usize));
         if let Some(length) = padded.filter(|length| out.try_reserve_exact(*length).is_ok()) {
             out.resize(length, 0);

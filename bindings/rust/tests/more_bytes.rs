@@ -15,7 +15,7 @@ type Read = (Result<Summary, Refusal>, Vec<EntryRow>, Vec<TensorRow>);
 
 /// The answer, and all rows of both tables after the call.
 fn rows(prefix: &[u8]) -> Read {
-    let (mut entries, mut tensors) = (vec![[9; 7]; 5], vec![[9; 10]; 5]);
+    let (mut entries, mut tensors) = (vec![[9; 7]; 6], vec![[9; 10]; 5]);
     let answer = Options::new().read_rows(prefix, &mut entries, &mut tensors);
     (answer, entries, tensors)
 }
@@ -38,7 +38,7 @@ fn compare(file: &[u8], at: usize) {
         let part = &file[..end];
         let read = rows(part);
         if cut_off(&read.0) {
-            assert_eq!((read.1, read.2), (vec![[9; 7]; 5], vec![[9; 10]; 5]));
+            assert_eq!((read.1, read.2), (vec![[9; 7]; 6], vec![[9; 10]; 5]));
         } else {
             assert_eq!(read, whole.0, "{file:?}, of which {end} bytes");
         }
@@ -48,13 +48,14 @@ fn compare(file: &[u8], at: usize) {
     }
 }
 
-/// A header with a family, a type, a string, an array and two tensors, and 70 bytes after it.
+/// A header with a family, a type, a string, arrays and two tensors, and 70 bytes after it.
 fn rich(version: u32, order: ByteOrder) -> Vec<u8> {
-    let mut file = made(version, order, 2, 5);
+    let mut file = made(version, order, 2, 6);
     file.key("general.architecture", 8).text("strut");
     file.key("general.file_type", 4).number(4, 7);
     file.key("text", 8).text("old").key("text", 8).text("new");
     file.array("tokens", 8, 2).text("a").text("bc");
+    file.array("lists", 9, 2).inner(9, 1).inner(0, 1).number(1, 5).inner(8, 1).text("d");
     file.tensor("a", &[5], 0, 0).tensor("b", &[3, 2], 1, 32);
     [&file.bytes[..], &[0xff; 70]].concat()
 }

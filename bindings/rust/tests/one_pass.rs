@@ -43,7 +43,7 @@ fn compare(options: Options, prefix: &[u8]) {
 
 /// A header with an entry of every type, arrays, and tensors of 0 to 4 dimensions.
 fn rich(version: u32, order: ByteOrder) -> Made {
-    let mut file = made(version, order, 5, 8);
+    let mut file = made(version, order, 5, 9);
     file.key("general.alignment", 4).number(4, 64);
     file.key("", 0).number(1, 1);
     file.key("text", 8).text("strut");
@@ -51,6 +51,7 @@ fn rich(version: u32, order: ByteOrder) -> Made {
     file.array("tokenizer.tokens", 8, 4).text("a").text("").text("bc").text("d");
     file.array("none", 9, 0);
     file.array("halves", 2, 3).number(2, 1).number(2, 2).number(2, 3);
+    file.array("lists", 9, 2).inner(8, 2).text("a").text("").inner(9, 1).inner(2, 1).number(2, 5);
     file.key("yes", 7).number(1, 1);
     for dimensions in 0..5 {
         file.tensor("t", &[3; 4][..dimensions], 0, 64 * dimensions as u64);

@@ -9,7 +9,7 @@ mod made;
 use made::{
     a_and_b, a_and_b_at, made, number_and_byte, shortest, Made, BLOCKS, DIALECTS, NO_BYTES,
 };
-use strutpebble::ByteOrder::{Big, BigMagic, Little};
+use strutpebble::ByteOrder::{self, Big, BigMagic, Little};
 use strutpebble::{
     file_type, find, find_string, measure, model_family, read, Options, Reason, StringError,
 };
@@ -160,10 +160,102 @@ fn types_8() {
     assert_eq!(refused(&made(3, Little, 0, 1).key("k", 9).number(4, 13).bytes), (8, 37));
 }
 
+/// An array in three others, in a header of one entry: its item type, its count, and nothing more.
+/// In version 3 the item types of the four are at 37, 49, 61 and 73, and in version 1 at 25, 33, 41
+/// and 49.
+fn fourth(version: u32, order: ByteOrder, item_type: u64, count: u64) -> Vec<u8> {
+    let mut file = made(version, order, 0, 1);
+    file.array("k", 9, 1).inner(9, 1).inner(9, 1).inner(item_type, count).bytes.clone()
+}
+
 #[test]
-fn arrays_of_arrays_9() {
-    assert_eq!(refused(&made(3, Little, 0, 1).array("k", 9, 1).bytes), (9, 37));
+fn arrays_too_deep_9() {
+    for (version, order) in DIALECTS {
+        let (place, most) = if version == 1 { (49, u32::MAX.into()) } else { (73, u64::MAX) };
+        for count in [1, 2, most] {
+            let file = fourth(version, order, 9, count);
+            assert_eq!(refused(&file), (9, place));
+            assert_eq!(refused(&[&file[..], &[0; 100]].concat()), (9, place));
+            // The count has to be there.
+            for end in 0..file.len() {
+                assert_eq!(refused(&file[..end]).0, 1, "{end} bytes");
+            }
+        }
+        assert!(read(&fourth(version, order, 9, 0)).is_ok());
+        assert!(read(&fourth(version, order, 0, 0)).is_ok());
+    }
+    let refusal = read(&fourth(3, Little, 9, 1)).unwrap_err();
+    assert_eq!(refusal.reason(), Reason::NestedArray);
+    let words = "refused 9 at byte 73: arrays stand in one another more than 4 deep";
+    assert_eq!((refusal.to_string().as_str(), refusal.wants_more()), (words, false));
+}
+
+#[test]
+fn arrays_not_too_deep() {
+    // Arrays of arrays, of which the first is not there.
+    assert_eq!(refused(&made(3, Little, 0, 1).array("k", 9, 1).bytes), (1, 49));
+    assert_eq!(refused(&made(3, Little, 0, 1).array("k", 9, 1).inner(9, 1).bytes), (1, 61));
+    let mut file = made(3, Little, 0, 1);
+    assert_eq!(refused(&file.array("k", 9, 1).inner(9, 1).inner(9, 1).bytes), (1, 73));
     assert!(read(&made(3, Little, 0, 1).array("k", 9, 0).bytes).is_ok());
+    assert!(read(&made(3, Little, 0, 1).array("k", 9, 1).inner(9, 0).bytes).is_ok());
+    // After a fourth array that is good, the next fourth is refused, also in the next second.
+    let mut file = made(3, Little, 0, 1);
+    file.array("k", 9, 1).inner(9, 1).inner(9, 2).inner(9, 0).inner(9, 1);
+    assert_eq!(refused(&file.bytes), (9, 85));
+    let mut file = made(3, Little, 0, 1);
+    file.array("k", 9, 2).inner(9, 1).inner(9, 1).inner(0, 1).number(1, 5);
+    assert!(read(&file.clone().inner(9, 1).inner(9, 1).inner(9, 0).bytes).is_ok());
+    assert_eq!(refused(&file.inner(9, 1).inner(9, 1).inner(9, 1).bytes), (9, 110));
+}
+
+#[test]
+fn cut_off_inside_arrays_1() {
+    // A third array with two items of two bytes. Where each field starts, and where the last ends.
+    let fields = [37, 41, 49, 53, 61, 65, 73, 75, 77];
+    for order in [Little, Big, BigMagic] {
+        let mut file = made(3, order, 0, 1);
+        file.array("k", 9, 1).inner(9, 1).inner(2, 2).number(2, 1).number(2, 2);
+        assert_eq!(file.bytes.len(), 77);
+        assert!(read(&file.bytes).is_ok());
+        for pair in fields.windows(2) {
+            for end in pair[0]..pair[1] {
+                assert_eq!(refused(&file.bytes[..end]), (1, pair[0] as u64), "{end} bytes");
+            }
+        }
+    }
+    // The text of a string, in version 1: its size is at 49, and two of its three bytes are there.
+    let mut file = made(1, BigMagic, 0, 1);
+    file.array("k", 9, 1).inner(9, 1).inner(8, 1).text("abc");
+    assert!(read(&file.bytes).is_ok());
+    assert_eq!(refused(&file.bytes[..55]), (1, 53));
+    // Counts that are made up, of which one has a length of 2^64 in bytes.
+    for count in [1, 1 << 61, u64::MAX] {
+        assert_eq!(refused(&fourth(3, Little, 10, count)), (1, 85));
+        assert_eq!(refused(&fourth(3, Big, 8, count)), (1, 85));
+    }
+    assert_eq!(refused(&made(3, Little, 0, 1).array("k", 9, u64::MAX).inner(9, 0).bytes), (1, 61));
+}
+
+#[test]
+fn types_and_strings_inside_arrays_7_and_8() {
+    assert_eq!(refused(&made(3, Little, 0, 1).array("k", 9, 1).inner(13, 0).bytes), (8, 49));
+    assert_eq!(refused(&made(3, Little, 0, 1).array("k", 9, 1).number(4, 13).bytes), (8, 49));
+    assert_eq!(refused(&fourth(3, Big, 13, 0)), (8, 73));
+    assert_eq!(refused(&fourth(1, BigMagic, 13, 1)), (8, 49));
+    for size in [(1 << 30) + 1, u64::MAX] {
+        let mut file = made(3, Little, 0, 1);
+        file.array("k", 9, 1).inner(8, 2).text("a").size(size);
+        assert_eq!(refused(&file.bytes), (7, 70));
+    }
+    // Under a tokenizer's key, in an array after those that are kept. The first inner array is at
+    // 63, and each of the four before it has 13 bytes.
+    let mut file = made(3, Little, 0, 1);
+    file.array("tokenizer.lists", 9, 5);
+    for item in 0..4 {
+        file.inner(0, 1).number(1, item);
+    }
+    assert_eq!(refused(&file.inner(13, 1).bytes), (8, 115));
 }
 
 #[test]

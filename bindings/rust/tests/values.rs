@@ -2,10 +2,10 @@
 
 mod made;
 
-use made::{made, number_and_byte, Made, DIALECTS};
+use made::{bytes, list, lists, made, number_and_byte, shown, strings, Made, DIALECTS};
 use strutpebble::ByteOrder::{self, Little};
 use strutpebble::{
-    file_type, find, find_string, model_family, read, Options, StringError, Type, Value,
+    file_type, find, find_string, model_family, read, Array, Options, StringError, Type, Value,
 };
 
 /// A file with one entry for each type that is not an array.
@@ -176,6 +176,237 @@ fn an_array_of_no_items() {
         (array.item_type(), array.len(), array.is_empty(), array.iter().next()),
         (Type::Array, 0, true, None)
     );
+}
+
+#[test]
+fn two_lists_of_bytes() {
+    for (version, order) in DIALECTS {
+        let mut file = made(version, order, 0, 2);
+        file.array("k", 9, 2);
+        file.inner(0, 2).number(1, 1).number(1, 2);
+        file.inner(0, 1).number(1, 3);
+        file.key("after", 0).number(1, 7);
+        let header = read(&file.bytes).unwrap();
+        let value = header.get("k").unwrap();
+        assert_eq!(shown(value), "[[1, 2], [3]]");
+        assert_eq!(value, lists(vec![bytes(&[1, 2]), bytes(&[3])]));
+        let array = value.as_array().unwrap();
+        assert_eq!((array.item_type(), array.len(), array.kept()), (Type::Array, 2, 2));
+        let inner: Vec<_> = array.iter().map(|item| item.as_array().unwrap()).collect();
+        assert_eq!((inner[0].item_type(), inner[0].len(), inner[0].kept()), (Type::U8, 2, 2));
+        assert_eq!((inner[1].item_type(), inner[1].len(), inner[1].kept()), (Type::U8, 1, 1));
+        assert!(inner[0].iter().eq([Value::U8(1), Value::U8(2)]));
+        assert!(inner[1].iter().eq([Value::U8(3)]));
+        assert_eq!(find(&file.bytes, "k").unwrap().unwrap().value(), value);
+        assert_eq!(header.get("after"), Some(Value::U8(7)));
+    }
+}
+
+/// Arrays that stand in one another four deep: of numbers of two bytes, of strings, of no items.
+fn four_deep(version: u32, order: ByteOrder) -> Vec<u8> {
+    let mut file = made(version, order, 0, 4);
+    file.array("numbers", 9, 2);
+    file.inner(9, 2).inner(9, 2);
+    file.inner(2, 2).number(2, 1).number(2, 256);
+    file.inner(2, 0).inner(9, 0);
+    file.inner(9, 1).inner(9, 1);
+    file.inner(2, 1).number(2, 3);
+    file.array("strings", 9, 1).inner(9, 1).inner(9, 2);
+    file.inner(8, 3).text("a").text("").text("strut");
+    file.inner(8, 1).text("pebble");
+    file.array("none", 9, 1).inner(9, 1).inner(9, 2).inner(9, 0).inner(9, 0);
+    file.key("after", 0).number(1, 7);
+    file.bytes
+}
+
+#[test]
+fn arrays_four_deep() {
+    let numbers =
+        |items: &[u16]| list(Type::U16, items.iter().map(|item| Value::U16(*item)).collect());
+    let front = lists(vec![lists(vec![numbers(&[1, 256]), numbers(&[])]), lists(vec![])]);
+    let back = lists(vec![lists(vec![numbers(&[3])])]);
+    let texts = lists(vec![strings(&["a", "", "strut"]), strings(&["pebble"])]);
+    // The items of the fourth arrays are arrays, and there are none of them.
+    let none = lists(vec![lists(vec![]), lists(vec![])]);
+    let wanted = [
+        ("numbers", lists(vec![front, back]), "[[[[1, 256], []], []], [[[3]]]]"),
+        ("strings", lists(vec![lists(vec![texts])]), r#"[[[["a", "", "strut"], ["pebble"]]]]"#),
+        ("none", lists(vec![lists(vec![none])]), "[[[[], []]]]"),
+    ];
+    let little = four_deep(3, Little);
+    for (version, order) in DIALECTS {
+        let file = four_deep(version, order);
+        let header = read(&file).unwrap();
+        for (key, value, words) in wanted {
+            let found = header.get(key).unwrap();
+            assert_eq!((found, shown(found).as_str()), (value, words));
+            assert_eq!(find(&file, key).unwrap().unwrap().value(), found);
+            // In each version and byte order the same.
+            assert_eq!(Some(found), read(&little).unwrap().get(key));
+        }
+        assert_eq!(header.get("after"), Some(Value::U8(7)));
+    }
+}
+
+/// Adds the first of three arrays, one of many, and gives what it is.
+fn first_of_three(file: &mut Made, which: usize) -> Value<'static> {
+    match which {
+        0 => {
+            file.inner(8, 3).text("a").text("").text("strut");
+            strings(&["a", "", "strut"])
+        }
+        1 => {
+            file.inner(0, 3).number(1, 9).number(1, 0).number(1, 1);
+            bytes(&[9, 0, 1])
+        }
+        2 => {
+            file.inner(3, 2).number(2, 0xfffe).number(2, 8);
+            list(Type::I16, vec![Value::I16(-2), Value::I16(8)])
+        }
+        3 => {
+            file.inner(6, 1).number(4, 0x3fc0_0000);
+            list(Type::F32, vec![Value::F32(1.5)])
+        }
+        4 => {
+            file.inner(12, 2).number(8, 0xbfd0_0000_0000_0000).number(8, 0);
+            list(Type::F64, vec![Value::F64(-0.25), Value::F64(0.0)])
+        }
+        5 => {
+            file.inner(9, 3).inner(0, 0).inner(8, 0).inner(9, 0);
+            lists(vec![bytes(&[]), strings(&[]), lists(vec![])])
+        }
+        6 => {
+            file.inner(9, 0);
+            lists(vec![])
+        }
+        _ => {
+            file.inner(9, 2).inner(9, 1).inner(8, 2).text("x").text("").inner(0, 1).number(1, 5);
+            lists(vec![lists(vec![strings(&["x", ""])]), bytes(&[5])])
+        }
+    }
+}
+
+#[test]
+fn the_array_after_one_of_any_items() {
+    for (version, order) in DIALECTS {
+        for which in 0..8 {
+            let mut file = made(version, order, 0, 1);
+            file.array("k", 9, 3);
+            let first = first_of_three(&mut file, which);
+            file.inner(0, 2).number(1, 100).number(1, 101).inner(8, 1).text("last");
+            let array = read(&file.bytes).unwrap().get("k").unwrap().as_array().unwrap();
+            let wanted = [first, bytes(&[100, 101]), strings(&["last"])];
+            assert_eq!(array.iter().collect::<Vec<_>>(), wanted, "array {which}");
+            for (index, item) in wanted.into_iter().enumerate() {
+                assert_eq!(array.iter().nth(index), Some(item), "array {which}");
+            }
+            let mut items = array.iter();
+            assert_eq!((items.len(), items.nth(1), items.len()), (3, Some(wanted[1]), 1));
+            assert_eq!(
+                (items.clone().next(), items.nth(1), items.next()),
+                (Some(wanted[2]), None, None)
+            );
+        }
+    }
+}
+
+#[test]
+fn the_cap_counts_outer_items() {
+    let all = [1, 2, 3, 4, 5].map(|n| bytes(&[n, 10 + n, 20 + n, 30 + n]));
+    for (version, order) in DIALECTS {
+        let mut file = made(version, order, 0, 2);
+        file.array("tokenizer.lists", 9, 5);
+        for n in 1..=5 {
+            file.inner(0, 4).number(1, n).number(1, 10 + n).number(1, 20 + n).number(1, 30 + n);
+        }
+        file.key("after", 0).number(1, 7);
+        for (cap, kept) in [(3, 3), (0, 0), (1, 1), (4, 4), (5, 5), (u64::MAX, 5)] {
+            let header = Options::new().cap(cap).read(&file.bytes).unwrap();
+            let array = header.get("tokenizer.lists").unwrap().as_array().unwrap();
+            assert_eq!((array.len(), array.kept()), (5, kept as u64));
+            assert_eq!(array.iter().len(), kept);
+            assert!(array.iter().eq(all[..kept].iter().copied()));
+            assert!(array.iter_all().eq(all));
+            // An inner array keeps all its items, more than the cap too.
+            assert!(array.iter_all().all(|item| item.as_array().unwrap().kept() == 4));
+            // Only what is kept whole equals what is lent: all items, or as many as are kept.
+            assert_eq!(array == Array::new(Type::Array, &all), kept == 5);
+            assert_eq!(array == Array::new(Type::Array, &all[..kept]), kept == 5);
+            assert_eq!(header.get("after"), Some(Value::U8(7)));
+        }
+    }
+}
+
+#[test]
+fn damaged_arrays_that_are_accepted() {
+    // Whatever the reader accepts is there to its last item.
+    let (mut accepted, mut changed) = (0, 0);
+    for (version, order) in DIALECTS {
+        let file = four_deep(version, order);
+        let words = |file: &[u8]| {
+            let header = read(file).ok()?;
+            Some(header.entries().map(|entry| shown(entry.value())).collect::<Vec<_>>())
+        };
+        let whole = words(&file);
+        for place in 0..file.len() {
+            for byte in [0, 1, 2, 3, 8, 9, 10, 0xff] {
+                let mut damaged = file.clone();
+                damaged[place] = byte;
+                let found = words(&damaged);
+                accepted += usize::from(found.is_some());
+                changed += usize::from(found.is_some() && found != whole);
+            }
+        }
+    }
+    assert!(accepted > changed && changed > 100, "{changed} of {accepted}");
+}
+
+#[test]
+fn arrays_that_are_lent() {
+    let items = [Value::I8(1), Value::I8(-2), Value::I8(3)];
+    let array = Array::new(Type::I8, &items);
+    assert_eq!((array.item_type(), array.len(), array.kept()), (Type::I8, 3, 3));
+    assert!(!array.is_empty() && Array::new(Type::I8, &[]).is_empty());
+    assert!(array.iter().eq(items) && array.iter_all().eq(items) && array.into_iter().eq(items));
+    assert_eq!(format!("{array:?}"), "[i8; 3 kept of 3]");
+    let mut left = array.iter();
+    assert_eq!((left.len(), left.next(), left.len()), (3, Some(Value::I8(1)), 2));
+    assert!(left.clone().eq(items[1..].iter().copied()));
+    assert_eq!((left.nth(1), left.next(), left.next()), (Some(Value::I8(3)), None, None));
+    // The items need not be of the type.
+    let mixed = [Value::I8(1), Value::U8(2), Value::Array(array)];
+    assert!(Array::new(Type::String, &mixed).iter().eq(mixed));
+}
+
+#[test]
+fn arrays_that_are_not_equal() {
+    let file = made(1, ByteOrder::BigMagic, 0, 1)
+        .array("k", 9, 2)
+        .inner(0, 2)
+        .number(1, 1)
+        .number(1, 2)
+        .inner(1, 0)
+        .bytes
+        .clone();
+    let found = read(&file).unwrap().get("k").unwrap();
+    let signed = |items: &[i8]| list(Type::I8, items.iter().map(|n| Value::I8(*n)).collect());
+    assert_eq!(found, lists(vec![bytes(&[1, 2]), signed(&[])]));
+    for other in [
+        lists(vec![bytes(&[1, 2]), bytes(&[])]),
+        lists(vec![bytes(&[1, 3]), signed(&[])]),
+        lists(vec![bytes(&[1]), signed(&[])]),
+        lists(vec![bytes(&[1, 2, 3]), signed(&[])]),
+        lists(vec![signed(&[1, 2]), signed(&[])]),
+        lists(vec![bytes(&[1, 2])]),
+        lists(vec![bytes(&[1, 2]), signed(&[]), signed(&[])]),
+        lists(vec![lists(vec![bytes(&[1, 2])]), signed(&[])]),
+        list(Type::U8, vec![bytes(&[1, 2]), signed(&[])]),
+        lists(vec![]),
+        bytes(&[1, 2]),
+    ] {
+        assert_ne!(found, other, "{}", shown(other));
+        assert_ne!(other, found, "{}", shown(other));
+    }
 }
 
 #[test]

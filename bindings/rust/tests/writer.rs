@@ -3,12 +3,12 @@
 
 mod made;
 
-use made::{a_and_b, made, BLOCKS, DIALECTS, NO_BYTES};
+use made::{a_and_b, bytes, list, lists, made, shown, strings, Made, BLOCKS, DIALECTS, NO_BYTES};
 use std::error::Error;
 use strutpebble::ByteOrder::{self, Big, BigMagic, Little};
 use strutpebble::{
-    read, write_header, Kind, Place, Reason, Refusal, Sheet, SheetError, Type, Value, WriteError,
-    WriteOptions, Written,
+    read, write_header, Kind, Options, Place, Reason, Refusal, Sheet, SheetError, Type, Value,
+    WriteError, WriteOptions, Written,
 };
 
 /// Writes into bytes that are all 7, and gives them with the answer.
@@ -184,7 +184,6 @@ fn versions_and_byte_orders_30() {
 fn refusals_of_sheets() {
     assert_eq!(refused(&Sheet::new().tensor("t", 0, &[1; 5])), (31, Place::Sheet(1)));
     assert_eq!(refused(&Sheet::new().tensor("t", 0, &[1; 300])), (31, Place::Sheet(1)));
-    assert_eq!(refused(&Sheet::new().array("k", Type::Array, [])), (31, Place::Sheet(1)));
     let aligned = Sheet::new().entry("general.alignment", Value::I64(64));
     assert_eq!(refused(&aligned), (34, Place::Nowhere));
     assert!(WriteOptions::new().alignment(64).to_vec(&aligned).is_ok());
@@ -304,27 +303,225 @@ fn sheets_that_cannot_be_made() {
     let other_type =
         SheetError::ItemType { key: b"m".to_vec(), expected: Type::U8, found: Type::I8 };
     assert_eq!(mixed.bytes(), Err(other_type.clone()));
-    assert_eq!(other_type.to_string(), "the array \"m\" of u8 has an item of type i8");
+    assert_eq!(other_type.to_string(), "under \"m\", an array of u8 has an item of type i8");
     let mut out = [7; 256];
     assert_eq!(mixed.write(&mut out), Err(WriteError::Sheet(other_type.clone())));
     assert_eq!(out, [7; 256]);
     assert_eq!(mixed.to_vec(), Err(WriteError::Sheet(other_type.clone())));
 
-    let file = made(3, Little, 0, 1).array("k", 0, 1).number(1, 5).bytes.clone();
-    let array = read(&file).unwrap().get("k").unwrap();
-    let nested = SheetError::NestedArray { key: b"n".to_vec() };
-    for item_type in [Type::Array, Type::U8] {
-        let sheet = Sheet::new().array("n", item_type, [array]);
-        assert_eq!(sheet.bytes(), Err(nested.clone()));
-    }
-    assert_eq!(nested.to_string(), "the array \"n\" has an array as an item");
-
     // The first error stays, whatever comes after it.
-    let later = mixed.array("n", Type::Array, [array]).entry("m", Value::U8(1)).tensor("t", 0, &[]);
+    let later =
+        mixed.array("n", Type::U8, [bytes(&[5])]).entry("m", Value::U8(1)).tensor("t", 0, &[]);
     assert_eq!(later.bytes(), Err(other_type.clone()));
     let error = WriteError::from(other_type);
     assert_eq!(error.to_string(), "the sheet can't be made");
     assert!(error.source().unwrap().to_string().contains("item of type i8"));
+}
+
+/// The error of an entry of this value under the key n.
+fn error_of(value: Value) -> SheetError {
+    let sheet = Sheet::new().entry("a", Value::U8(1)).entry("n", value);
+    let error = sheet.bytes().unwrap_err();
+    let mut out = [7; 256];
+    assert_eq!(sheet.write(&mut out), Err(WriteError::Sheet(error.clone())));
+    assert_eq!(out, [7; 256]);
+    error
+}
+
+#[test]
+fn items_of_another_type_at_each_depth() {
+    let file = made(3, Little, 0, 1).array("k", 0, 1).number(1, 5).bytes.clone();
+    let found = read(&file).unwrap().get("k").unwrap();
+    let wrong = |expected, found| SheetError::ItemType { key: b"n".to_vec(), expected, found };
+    // An array where a number is expected, read or lent, and the other way.
+    for array in [found, bytes(&[5])] {
+        let sheet = Sheet::new().array("n", Type::U8, [array]);
+        assert_eq!(sheet.bytes(), Err(wrong(Type::U8, Type::Array)));
+        assert!(Sheet::new().array("n", Type::Array, [array]).bytes().is_ok());
+    }
+    let sheet = Sheet::new().array("n", Type::Array, [found, Value::U8(1)]);
+    assert_eq!(sheet.bytes(), Err(wrong(Type::Array, Type::U8)));
+    let mut array = list(Type::U8, vec![Value::U8(1), bytes(&[5])]);
+    let mut number = lists(vec![bytes(&[5]), Value::U8(1)]);
+    let mut text = list(Type::I8, vec![Value::I8(1), Value::String(b"")]);
+    for depth in 1..=4 {
+        assert_eq!(error_of(array), wrong(Type::U8, Type::Array), "depth {depth}");
+        assert_eq!(error_of(text), wrong(Type::I8, Type::String), "depth {depth}");
+        // The items of a fourth array of arrays are not looked at, because the writer refuses it.
+        if depth < 4 {
+            assert_eq!(error_of(number), wrong(Type::Array, Type::U8), "depth {depth}");
+        } else {
+            assert_eq!(refused(&Sheet::new().entry("n", number)), (31, Place::Sheet(1)));
+        }
+        // An item before it that is good changes nothing.
+        [array, number, text] = [array, number, text].map(|inner| lists(vec![bytes(&[]), inner]));
+    }
+    let words = "under \"n\", an array of u8 has an item of type array";
+    assert_eq!(wrong(Type::U8, Type::Array).to_string(), words);
+}
+
+/// An array of one byte inside others, so many arrays in all.
+fn deep(arrays: usize) -> Value<'static> {
+    (1..arrays).fold(bytes(&[5]), |inner, _| lists(vec![inner]))
+}
+
+/// An array of no arrays inside others, so many arrays in all.
+fn deep_and_empty(arrays: usize) -> Value<'static> {
+    (1..arrays).fold(lists(vec![]), |inner, _| lists(vec![inner]))
+}
+
+/// Panics where an entry of this value is not refused for it, at the place where the entry starts.
+fn too_deep(value: Value) {
+    assert_eq!(refused(&Sheet::new().entry("k", value)), (31, Place::Sheet(1)));
+    assert_eq!(refused(&Sheet::new().array("k", Type::Array, [value])), (31, Place::Sheet(1)));
+    // The entry before it takes 4 + 8 bytes.
+    let second = Sheet::new().entry("a", Value::U8(1)).entry("k", value).entry("z", Value::U8(1));
+    assert_eq!(refused(&second), (31, Place::Sheet(13)));
+    let Err(WriteError::Refused(refusal)) = second.to_vec() else { panic!("not refused") };
+    assert_eq!(refusal.reason(), Reason::BadSheet);
+}
+
+#[test]
+fn arrays_too_deep_31() {
+    too_deep(deep(5));
+    too_deep(deep(6));
+    too_deep(lists(vec![bytes(&[]), deep(4), strings(&["a"])]));
+    too_deep(deep_and_empty(4));
+    too_deep(deep_and_empty(5));
+    // So deep that calls as deep would be more than the stack holds.
+    too_deep(deep(100_000));
+    too_deep(deep_and_empty(100_000));
+    // The reader takes an array of no arrays inside three others, and the writer does not.
+    let file =
+        made(3, Little, 0, 1).array("k", 9, 1).inner(9, 1).inner(9, 1).inner(9, 0).bytes.clone();
+    let found = read(&file).unwrap().get("k").unwrap();
+    assert_eq!(found, deep_and_empty(4));
+    too_deep(found);
+}
+
+#[test]
+fn arrays_of_no_arrays() {
+    for (version, order) in DIALECTS {
+        let options = WriteOptions::new().version(version).byte_order(order);
+        for (arrays, words) in [(1, "[]"), (2, "[[]]"), (3, "[[[]]]")] {
+            let value = deep_and_empty(arrays);
+            let file = options.to_vec(&Sheet::new().entry("k", value)).unwrap();
+            let found = read(&file).unwrap().get("k").unwrap();
+            assert_eq!((found, shown(found).as_str()), (value, words));
+        }
+    }
+    let empty = Sheet::new().array("k", Type::Array, []);
+    assert_eq!(empty, Sheet::new().entry("k", deep_and_empty(1)));
+}
+
+#[test]
+fn the_bytes_of_arrays_in_arrays() {
+    let value = lists(vec![bytes(&[1, 2]), strings(&["ab"]), lists(vec![])]);
+    #[rustfmt::skip]
+    let wanted = [
+        1,   0, 0, 0, 35,   1,   0, 0, 0, 1, b'k',   9,   9,   0, 0, 0, 3,
+        0,   0, 0, 0, 2,   1,   2,
+        8,   0, 0, 0, 1,   0, 0, 0, 2, b'a', b'b',
+        9,   0, 0, 0, 0,
+    ];
+    assert_eq!(Sheet::new().entry("k", value).bytes().unwrap(), wanted);
+    // Of the fourth, a count of 0 and no items.
+    #[rustfmt::skip]
+    let wanted = [
+        1,   0, 0, 0, 27,   1,   0, 0, 0, 1, b'k',   9,   9,   0, 0, 0, 1,
+        9,   0, 0, 0, 1,
+        9,   0, 0, 0, 1,
+        9,   0, 0, 0, 0,
+    ];
+    assert_eq!(Sheet::new().entry("k", deep(5)).bytes().unwrap(), wanted);
+    assert_eq!(Sheet::new().entry("k", deep(100_000)).bytes().unwrap(), wanted);
+}
+
+/// Lists of lists: of numbers, of strings, of both, and four deep.
+fn nested() -> [(&'static str, Value<'static>, &'static str); 4] {
+    let texts = lists(vec![strings(&["a", "", "strut"]), strings(&[]), strings(&["pebble"])]);
+    let wide = list(Type::I64, vec![Value::I64(-1), Value::I64(1 << 40)]);
+    let inner = lists(vec![lists(vec![wide, bytes(&[])]), lists(vec![strings(&["x"])])]);
+    [
+        ("bytes", lists(vec![bytes(&[1, 2]), bytes(&[3])]), "[[1, 2], [3]]"),
+        (
+            "four",
+            lists(vec![inner, lists(vec![])]),
+            r#"[[[[-1, 1099511627776], []], [["x"]]], []]"#,
+        ),
+        (
+            "mixed",
+            lists(vec![bytes(&[9]), strings(&["b"]), texts]),
+            r#"[[9], ["b"], [["a", "", "strut"], [], ["pebble"]]]"#,
+        ),
+        ("texts", texts, r#"[["a", "", "strut"], [], ["pebble"]]"#),
+    ]
+}
+
+/// The header of the same lists, field by field.
+fn nested_file(version: u32, order: ByteOrder) -> Vec<u8> {
+    let mut file = made(version, order, 0, 4);
+    let texts = |file: &mut Made| {
+        file.inner(8, 3).text("a").text("").text("strut").inner(8, 0).inner(8, 1).text("pebble");
+    };
+    file.array("bytes", 9, 2).inner(0, 2).number(1, 1).number(1, 2).inner(0, 1).number(1, 3);
+    file.array("four", 9, 2).inner(9, 2).inner(9, 2);
+    file.inner(11, 2).number(8, u64::MAX).number(8, 1 << 40).inner(0, 0);
+    file.inner(9, 1).inner(8, 1).text("x").inner(9, 0);
+    file.array("mixed", 9, 3).inner(0, 1).number(1, 9).inner(8, 1).text("b");
+    texts(file.inner(9, 3));
+    texts(file.array("texts", 9, 3));
+    file.bytes
+}
+
+#[test]
+fn arrays_in_arrays_read_back() {
+    let sheet =
+        nested().into_iter().fold(Sheet::new(), |sheet, (key, value, _)| sheet.entry(key, value));
+    let little = sheet.to_vec().unwrap();
+    for (version, order) in DIALECTS {
+        let options = WriteOptions::new().version(version).byte_order(order);
+        let mut out = vec![7; 1000];
+        let end = options.write(&sheet, &mut out).unwrap().header_end as usize;
+        assert_eq!(out[..end], nested_file(version, order));
+        let header = read(&out).unwrap();
+        for (key, value, words) in nested() {
+            let found = header.get(key).unwrap();
+            assert_eq!((found, shown(found).as_str()), (value, words));
+            assert_eq!(read(&little).unwrap().get(key), Some(found));
+        }
+        // What was read, written again, is the same.
+        let again = header
+            .entries()
+            .fold(Sheet::new(), |sheet, entry| sheet.entry(entry.key(), entry.value()));
+        assert_eq!(again, sheet);
+    }
+}
+
+#[test]
+fn arrays_in_arrays_of_another_file() {
+    let mut file = made(1, BigMagic, 0, 2);
+    for key in ["lists", "tokenizer.lists"] {
+        file.array(key, 9, 3).inner(2, 2).number(2, 1).number(2, 256);
+        file.inner(8, 2).text("ab").text("").inner(9, 1).inner(5, 1).number(4, 0xffff_fff9);
+    }
+    let header = Options::new().cap(1).read(&file.bytes).unwrap();
+    for (key, kept) in [("lists", 3), ("tokenizer.lists", 1)] {
+        let value = header.get(key).unwrap();
+        assert_eq!((value.as_array().unwrap().len(), value.as_array().unwrap().kept()), (3, kept));
+        let sheets = [
+            Sheet::new().entry(key, value),
+            Sheet::new().array(key, Type::Array, value.as_array().unwrap().iter_all()),
+        ];
+        assert_eq!(sheets[0], sheets[1]);
+        for (version, order) in DIALECTS {
+            let options = WriteOptions::new().version(version).byte_order(order);
+            let file = options.to_vec(&sheets[0]).unwrap();
+            let found = Options::new().cap(3).read(&file).unwrap().get(key).unwrap();
+            assert_eq!(shown(found), r#"[[1, 256], ["ab", ""], [[-7]]]"#);
+            assert_eq!(Some(found), header.get("lists"));
+        }
+    }
 }
 
 /// Every type, as a value and in an array.
@@ -403,12 +600,14 @@ fn an_entry_replaces_one_of_its_key() {
 
 #[test]
 fn a_vector_has_room_for_what_grows_most() {
-    // Strings of no bytes in an array, arrays of no items, entries and tensors of no name: each
-    // alone and many times, with every size of padding.
+    // Strings of no bytes and arrays of no items in an array, arrays of no items, entries and
+    // tensors of no name: each alone and many times, with every size of padding.
     let none = Value::String(b"");
     let mut sheets = vec![Sheet::new(), two_tensors(), every_type()];
     for count in [1, 2, 50, 999] {
         sheets.push(Sheet::new().array("", Type::String, vec![none; count]));
+        sheets.push(Sheet::new().array("", Type::Array, vec![bytes(&[]); count]));
+        sheets.push(Sheet::new().array("", Type::Array, vec![deep_and_empty(2); count]));
         sheets.push((0..count).fold(Sheet::new(), |sheet, _| sheet.tensor("", 0, &[])));
         let keys = (0..count).map(|index| format!("{index}"));
         sheets.push(keys.fold(Sheet::new(), |sheet, key| sheet.array(key, Type::U8, [])));

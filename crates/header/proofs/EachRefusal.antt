@@ -57,7 +57,11 @@ pub gives-6 : reads full (file 0 2 []) ≡ refused 6 12
 unfolding run under header start magic version counts size number here _>>=_
 gives-6 = refl
 
--- a key of 2 ^ 30 + 1 bytes, a type 13, and an array of an array
+-- an array of one array, before that one
+abbrev nested : List ℕ
+nested = 9 ∷ 0 ∷ 0 ∷ 0 ∷ 1 ∷ 0 ∷ 0 ∷ 0 ∷ []
+
+-- a key of 2 ^ 30 + 1 bytes, a type 13, and an array in four others
 pub gives-7 : reads full (file 0 1 (1 ∷ 0 ∷ 0 ∷ 64 ∷ [])) ≡ refused 7 16
 unfolding run under header start magic version counts size number here _>>=_ each entry key textLooking
 gives-7 = refl
@@ -66,7 +70,7 @@ pub gives-8 : reads full (file 0 1 (0 ∷ 0 ∷ 0 ∷ 0 ∷ 13 ∷ 0 ∷ 0 ∷ 0
 unfolding run under header start magic version counts size number here _>>=_ each entry key textLooking value type
 gives-8 = refl
 
-pub gives-9 : reads full (file 0 1 (0 ∷ 0 ∷ 0 ∷ 0 ∷ 9 ∷ 0 ∷ 0 ∷ 0 ∷ 9 ∷ 0 ∷ 0 ∷ 0 ∷ 1 ∷ 0 ∷ 0 ∷ 0 ∷ [])) ≡ refused 9 24
+pub gives-9 : reads full (file 0 1 (0 ∷ 0 ∷ 0 ∷ 0 ∷ 9 ∷ 0 ∷ 0 ∷ 0 ∷ (nested ++ nested ++ nested ++ nested))) ≡ refused 9 48
 unfolding run under header start magic version counts size number here _>>=_ each entry key textLooking value type valueOf scalarWidth array
 gives-9 = refl
 

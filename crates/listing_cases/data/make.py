@@ -117,7 +117,16 @@ class File:
         return self.number(4, kind)
 
     def item(self, kind, value):
-        return self.string(value) if kind == STRING else self.number(WIDTHS[kind], value)
+        """A value, or an item of an array. An array is its item type and its items."""
+        if kind == STRING:
+            return self.string(value)
+        if kind != ARRAY:
+            return self.number(WIDTHS[kind], value)
+        item_type, items = value
+        place = self.array_start(item_type, len(items))
+        for item in items:
+            self.item(item_type, item)
+        return place
 
     def array_start(self, kind, count):
         """The front of an array. The place is that of its item type."""
@@ -125,16 +134,14 @@ class File:
         self.size(count)
         return place
 
+    def arrays_in_one_another(self, depth):
+        """The fronts of so many arrays, each the only item of the one before."""
+        return [self.array_start(ARRAY, 1) for _ in range(depth)]
+
     def entry(self, key, kind, value):
-        """A whole entry. An array's value is its item type and its items."""
+        """A whole entry."""
         self.key_and_type(key, kind)
-        if kind == ARRAY:
-            item_type, items = value
-            self.array_start(item_type, len(items))
-            for item in items:
-                self.item(item_type, item)
-        else:
-            self.item(kind, value)
+        self.item(kind, value)
         self.entries.append((key, kind, value))
 
     def name_and_dimensions(self, name, dimensions):
@@ -312,6 +319,27 @@ def types():
     whole("arrays", arrays, version=2)
 
 
+def arrays_in_arrays():
+    numbers = (ARRAY, [(U8, [1, 2]), (U8, [3])])
+    mixed = (ARRAY, [(STRING, [b"x", b"", b"yz"]), (F64, []), (I16, [-1, 2]), (ARRAY, [])])
+    third = (ARRAY, [(U32, [7, 8]), (STRING, [b"deep"]), (ARRAY, [])])
+    fourth = (ARRAY, [(ARRAY, [third, (ARRAY, [])]), (ARRAY, []), (BOOL, [1])])
+    entries = [
+        (b"lists", ARRAY, numbers),
+        (b"lists.mixed", ARRAY, mixed),
+        (b"lists.four_deep", ARRAY, fourth),
+        (b"tokenizer.lists", ARRAY, (ARRAY, [(U8, [n] * n) for n in range(5)])),
+        (b"u8", U8, 7),
+    ]
+    whole("arrays_in_arrays", entries, A_AND_B)
+    whole("arrays_in_arrays_v1", entries, A_AND_B, version=1)
+    whole("arrays_in_arrays_big_end", entries, A_AND_B, order=BIG)
+    whole("arrays_in_arrays_big_end_magic", entries, A_AND_B, version=2, order=BIG_MAGIC)
+    # In the fourth array an item type of arrays is none too many where there are no items.
+    fourth = (ARRAY, [(ARRAY, [(ARRAY, [(ARRAY, [])])])])
+    whole("arrays_in_arrays_fourth_of_none", [(b"k", ARRAY, fourth)])
+
+
 def alignments():
     whole("alignment_64", alignment_entries(64), a_and_b(0, 64))
     # No power of 2.
@@ -433,9 +461,55 @@ def wrong_entries():
     file = front("refused_8_item", entries=1)
     file.key_and_type(b"k", ARRAY)
     file.refused(8, file.number(4, 13))
-    file = front("refused_9", entries=1)
+
+
+def wrong_arrays_in_arrays():
+    for name, version in [("refused_9", 3), ("refused_9_v1", 1)]:
+        file = front(name, entries=1, version=version)
+        file.key_and_type(b"k", ARRAY)
+        file.refused(9, file.arrays_in_one_another(4)[3])
+        file.item(ARRAY, (U8, [1]))
+    # The fifth need not be there, and nothing behind the fourth's count is looked at.
+    file = front("refused_9_nothing_behind_it", entries=1)
+    file.key_and_type(b"tokenizer.k", ARRAY)
+    file.refused(9, file.arrays_in_one_another(4)[3])
+    file = front("refused_9_a_thousand_arrays", entries=1)
     file.key_and_type(b"k", ARRAY)
-    file.refused(9, file.array_start(ARRAY, 1))
+    file.refused(9, file.arrays_in_one_another(1000)[3])
+    file.item(ARRAY, (U8, []))
+    # Inside as outside: each at its own field, also behind items that a cap does not keep.
+    file = front("refused_8_third_array", entries=1)
+    file.key_and_type(b"k", ARRAY)
+    file.arrays_in_one_another(2)
+    file.refused(8, file.array_start(13, 0))
+    file = front("refused_7_third_array", entries=1)
+    file.key_and_type(b"k", ARRAY)
+    file.arrays_in_one_another(2)
+    file.array_start(STRING, 2)
+    file.string(b"x")
+    file.refused(7, file.size(LONGEST + 1))
+    file = front("refused_1_third_array", entries=1)
+    file.key_and_type(b"k", ARRAY)
+    file.arrays_in_one_another(2)
+    file.array_start(U16, 2)
+    file.number(2, 1)
+    file.cut(file.number(2, 1), 1)
+    file = front("refused_1_count_of_the_third_array", entries=1, version=1)
+    file.key_and_type(b"k", ARRAY)
+    file.arrays_in_one_another(2)
+    file.number(4, U16)
+    file.cut(file.size(2), 3)
+    file = front("refused_1_fifth_list_of_a_tokenizer", entries=1)
+    file.key_and_type(b"tokenizer.k", ARRAY)
+    file.array_start(ARRAY, 5)
+    for items in [[], [1], [], [2, 3]]:
+        file.item(ARRAY, (U8, items))
+    file.missing()
+    file = front("refused_1_arrays_of_2_64_less_1", entries=1)
+    file.key_and_type(b"k", ARRAY)
+    file.array_start(ARRAY, GREATEST)
+    file.item(ARRAY, (U8, [1]))
+    file.missing()
 
 
 def wrong_tensors():
@@ -592,6 +666,7 @@ def main():
     small_headers()
     keys()
     types()
+    arrays_in_arrays()
     alignments()
     shapes()
     blocks()
@@ -601,6 +676,7 @@ def main():
     no_such_format()
     too_many()
     wrong_entries()
+    wrong_arrays_in_arrays()
     wrong_tensors()
     misaligned()
     faults_of_counts()

@@ -14,7 +14,7 @@ use Rattle.values.specs.declared.Dialect.{Dialect}
 use Rattle.tensors.specs.declared.Shape.{Shape}
 use Rattle.values.specs.Format.{sizeWidth, depth}
 use Rattle.scalars.specs.Scalars.{scalarWidth}
-use Rattle.values.specs.Contents.{Content, aScalar, aText, anArray, EntryContent, sizeBytes, textBytes, typeBytes, typeOf, valueBytes, entryBytes}
+use Rattle.values.specs.Contents.{aScalar, aText, EntryContent, sizeBytes, textBytes, typeBytes, typeOf, valueBytes, entryBytes}
 use Rattle.tensors.specs.Contents.{TensorContent, lengthBytes, shapeBytes, kindAndOffsetBytes, tensorBytes}
 use Rattle.start.specs.declared.Start.{Start}
 use Rattle.header.specs.Contents.{Contents, headerBytes}
@@ -53,12 +53,6 @@ module _ (k : Dialect) where
   pub word-length : (d : ℕ) (b : List ℕ) → length (valueBytes (suc d) k (aText b)) ≡ sizeWidth k + length b
   unfolding valueBytes
   word-length d b = text-length b
-
-  pub list-length : (d t : ℕ) (l : List (Content d)) → length (valueBytes (suc d) k (anArray t l)) ≡ sizeWidth k + 4 + length (bytesOfAll (valueBytes d k) l)
-  unfolding valueBytes
-  list-length d t l =
-      length-append (typeBytes k t ++ sizeBytes k (length l)) (bytesOfAll (valueBytes d k) l)
-      ∙ ap (λ n. n + length (bytesOfAll (valueBytes d k) l)) (length-append (typeBytes k t) (sizeBytes k (length l)) ∙ rw (type-length t, size-length (length l)) (omega arith))
 
   -- a key, a type and a value
   pub entry-size : (b : List ℕ) (t : ℕ) (l : List ℕ) → length (textBytes k b ++ typeBytes k t ++ l) ≡ sizeWidth k + length b + 4 + length l

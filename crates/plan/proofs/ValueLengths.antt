@@ -1,7 +1,7 @@
 -- How long values of a sheet are as values of a header, from the places between which they stand:
 -- their items are not looked at. Assumes nothing.
 use Prim.Native.Nat.{ℕ, zero, suc, _+_, _-_, _*_, _≤_}
-use mathlib.Core.Path.{_≡_, refl, sym, ap, subst, _∙_}
+use mathlib.Core.Path.{_≡_, refl, sym, ap, _∙_}
 use mathlib.Core.Bool.{true, false}
 use mathlib.Core.List.{List}
 use native.Mathlib.Omega.{arith}
@@ -9,7 +9,7 @@ use native.Mathlib.Nat.{suc-mul}
 use lib.Dec.{leb, ltb, eqb}
 use lib.ListN.{length}
 use borrow.Author.Tests.{eqb-true, eq-eqb, ne-eqb}
-use Rattle.reading.specs.Back.{Sure, bytesOfAll}
+use Rattle.reading.specs.Back.{Sure, got, bytesOfAll}
 use Rattle.reading.specs.Choice.{if_then_else_}
 use Rattle.reading.specs.Each.{each, times}
 use Rattle.reading.specs.Reading.{Answer, accepted, refused, run, isAccepted}
@@ -20,7 +20,7 @@ use Rattle.reading.proofs.SureLaws.{sure-then, sure-done, sure-refuse, sure-her
 use Rattle.values.specs.declared.Dialect.{Dialect}
 use Rattle.values.specs.Format.{sizeWidth, depth}
 use Rattle.scalars.specs.Scalars.{scalarWidth}
-use Rattle.values.specs.Contents.{ValueContent, Content, aScalar, aText, anArray, valueBytes}
+use Rattle.values.specs.Contents.{ValueContent, aScalar, aText, valueBytes}
 use Rattle.values.proofs.Texts.{bytes-length}
 use Rattle.header.specs.Contents.{contentAlignment}
 use Rattle.sheet.specs.Format.{Text, scalar, itemType, array, item, value}
@@ -28,9 +28,10 @@ use Rattle.sheet.specs.declared.Stepped.the-variants.{To}
 use Rattle.sheet.proofs.SheetItems.{has-width, has-none, value-array}
 use Rattle.sheet.proofs.BackFromAnswers.{step-yes}
 use Rattle.sheet.proofs.PartsFound.{TextTold, scalar-told, sure-textOf, sure-text, onward}
-use Rattle.plan.proofs.PartLengths.{size-cases, one-length, word-length, list-length, rows-more, rows-none}
+use Rattle.plan.proofs.PartLengths.{size-cases, one-length, word-length, rows-more, rows-none}
 use Rattle.sheet.specs.Steps.{stepOf}
 use Rattle.plan.specs.Steps.{contentRead}
+use Rattle.plan.proofs.ArraysSaid.{ArraySaid}
 
 -- two answers of one run
 pub never-both : {A : Type 0} {r : Answer A} {a : A} {q n p : ℕ} → accepted a q ≡ r → refused n p ≡ r → ⊥
@@ -43,22 +44,10 @@ same-answer e f = (cc, cc)
 abbrev pub wider : Dialect → ℕ → ℕ
 wider k t = if eqb t 8 then sizeWidth k - 4 else 0
 
--- an array: its type, its count and its items
-pub record ArrayTold (s : List ℕ) (at : ℕ) (c : Content (suc depth)) (e : ℕ) : Type 0 where
-  pub type : ℕ
-  pub after : ℕ
-  pub count : ℕ
-  pub first : ℕ
-  pub items : List (Content depth)
-  pub typed : accepted type after ≡ run (number 1 true) s at
-  pub counted : accepted count first ≡ run (number 4 true) s after
-  pub read : accepted items e ≡ run (times count (item depth type)) s first
-  pub made : c ≡ anArray type items
-
--- where an array's items end, and how long it is in the header
-pub record Measured (k : Dialect) (c : Content (suc depth)) (e t n q : ℕ) : Type 0 where
+-- where the items of an array, which are no arrays, end, and how long it is in the header
+pub record Measured (d : ℕ) (k : Dialect) (s : List ℕ) (at e t n q : ℕ) : Type 0 where
   pub ends : q ≤ e
-  pub whole : length (valueBytes (suc depth) k c) + q ≡ sizeWidth k + 4 + e + n * wider k t
+  pub whole : sizeWidth k + 4 + (e - q) + n * wider k t ≡ length (valueBytes (suc d) k (contentRead (run (array d (item d)) s at)))
   pub few : t ≡ 8 → q + n * 4 ≤ e
 
 -- the types of texts and arrays are no scalar's
@@ -84,13 +73,13 @@ module _ (s : List ℕ) where
 
   module _ (k : Dialect) where
     -- an item of an array
-    scalar-item : (t v p : ℕ) {q : ℕ} → ltb 0 (scalarWidth t) ≡ true → q ≡ p + scalarWidth t → (length (valueBytes depth k (aScalar t v)) + p ≡ q + wider k t) × (t ≡ 8 → p + 4 ≤ q)
+    scalar-item : (t v p : ℕ) {q : ℕ} → ltb 0 (scalarWidth t) ≡ true → q ≡ p + scalarWidth t → (length (valueBytes 1 k (aScalar t v)) + p ≡ q + wider k t) × (t ≡ 8 → p + 4 ≤ q)
     scalar-item t v p i h = (omega (arith, one-length k 0 t v, no-wider k t (not-text t i)), λ e. absurd (not-text t i e))
 
-    text-item : (t p : ℕ) {q : ℕ} {a : Text} → eqb t 8 ≡ true → TextTold s (p + 4) a q → (length (valueBytes depth k (aText (a .bytes))) + p ≡ q + wider k t) × (t ≡ 8 → p + 4 ≤ q)
+    text-item : (t p : ℕ) {q : ℕ} {a : Text} → eqb t 8 ≡ true → TextTold s (p + 4) a q → (length (valueBytes 1 k (aText (a .bytes))) + p ≡ q + wider k t) × (t ≡ 8 → p + 4 ≤ q)
     text-item t p {a = a} j h = (omega (arith, word-length k 0 (a .bytes), much-wider k t j, text-bytes h), λ e. omega (arith, text-bytes h))
 
-    item-measure : (t p : ℕ) → Sure s (item depth t) p (λ c q. (length (valueBytes depth k c) + p ≡ q + wider k t) × (t ≡ 8 → p + 4 ≤ q))
+    item-measure : (t p : ℕ) → Sure s (item 1 t) p (λ c q. (length (valueBytes 1 k c) + p ≡ q + wider k t) × (t ≡ 8 → p + 4 ≤ q))
     unfolding item array
     item-measure t p =
         sure-if (ltb 0 (scalarWidth t)) _ _
@@ -98,12 +87,12 @@ module _ (s : List ℕ) where
         (λ i. sure-if (eqb t 8) _ _ (λ j. sure-then (sure-text s p) (λ a q h. sure-done (text-item t p j h))) (λ j. sure-refuse))
 
     -- so many items
-    items-measure : (n t p : ℕ) → Sure s (times n (item depth t)) p (λ l q. (length (bytesOfAll (valueBytes depth k) l) + p ≡ q + n * wider k t) × (t ≡ 8 → p + n * 4 ≤ q))
+    items-measure : (n t p : ℕ) → Sure s (times n (item 1 t)) p (λ l q. (length (bytesOfAll (valueBytes 1 k) l) + p ≡ q + n * wider k t) × (t ≡ 8 → p + n * 4 ≤ q))
     unfolding each
-    items-measure zero t p = sure-done (omega (arith, rows-none (valueBytes depth k)), λ e. omega arith)
+    items-measure zero t p = sure-done (omega (arith, rows-none (valueBytes 1 k)), λ e. omega arith)
     items-measure (suc n) t p =
         sure-then (item-measure t p) (λ c q h. sure-then (items-measure n t q) (λ l r g. sure-done (
-          omega (arith, rows-more (valueBytes depth k) c l, h .0, g .0, suc-mul n (wider k t)),
+          omega (arith, rows-more (valueBytes 1 k) c l, h .0, g .0, suc-mul n (wider k t)),
           λ e. omega (arith, h .1 e, g .1 e),
         )))
 
@@ -117,45 +106,14 @@ module _ (s : List ℕ) where
         (λ j. sure-here _ (sure-then (sure-textOf s (e - p) p) (λ a q h. sure-done (λ other. rw j (omega (arith, word-length k depth (a .bytes), text-bytes h))))))
         (λ j. sure-if (eqb t 9) _ _ (λ i. record { holds = λ c q h other. absurd (other (eqb-true t 9 i)) }) (λ j. sure-refuse)))
 
-  -- the parts of an array
-  array-told : (at : ℕ) → Sure s (array depth (item depth)) at (ArrayTold s at)
-  unfolding array
-  array-told at =
-      sure-then (sure-run whatever) (λ t p h. sure-check (itemType 0 t) 31 0 _ (λ i. sure-then (sure-run whatever) (λ n q g. sure-then (sure-run whatever) (λ l e f. sure-done (record {
-        type = t;
-        after = p;
-        count = n;
-        first = q;
-        items = l;
-        typed = h .1;
-        counted = g .1;
-        read = f .1;
-        made = refl;
-      })))))
-
-  module _ (at : ℕ) {c : Content (suc depth)} {e : ℕ} (there : accepted c e ≡ run (array depth (item depth)) s at) where
-    pub array-typed : {n p : ℕ} → refused n p ≡ run (number 1 true) s at → ⊥
-    array-typed r = never-both (array-told at .holds c e there .typed) r
-
-    module _ {t p : ℕ} (typed : accepted t p ≡ run (number 1 true) s at) where
-      pub array-counted : {n o : ℕ} → refused n o ≡ run (number 4 true) s p → ⊥
-      array-counted r =
-          let h = array-told at .holds c e there in
-          never-both (subst (λ o. accepted (h .count) (h .first) ≡ run (number 4 true) s o) (same-answer (h .typed) typed .1) (h .counted)) r
-
-      pub array-measure : (k : Dialect) {n q : ℕ} → accepted n q ≡ run (number 4 true) s p → Measured k c e t n q
-      array-measure k {n} {q} counted =
-          let h = array-told at .holds c e there in
-          let a = same-answer (h .typed) typed in
-          let b = same-answer (subst (λ o. accepted (h .count) (h .first) ≡ run (number 4 true) s o) (a .1) (h .counted)) counted in
-          let r : accepted (h .items) e ≡ run (times n (item depth t)) s q = rw (a .0, b .0, b .1) at (h .read) in
-          let m = items-measure k n t q .holds (h .items) e r in
-          let o : c ≡ anArray t (h .items) = rw (a .0) at (h .made) in
-          record {
-            ends = onward (times n (item depth t)) s q r;
-            whole = rw o (omega (arith, list-length k depth t (h .items), m .0));
-            few = m .1;
-          }
+  -- an array of items that are no arrays
+  pub array-measure : (d : ℕ) (k : Dialect) (at : ℕ) {e t n q : ℕ} → To e ≡ stepOf (run (array d (item d)) s at) → ArraySaid (item 1 t) (valueBytes 1 k) d k s at t n q → Measured d k s at e t n q
+  array-measure d k at {e} {t} {n} {q} there said =
+      let r = step-yes (run (times n (item 1 t)) s q) (there ∙ sym (said .ends)) in
+      let m = items-measure k n t q .holds (r .what) e (r .is) in
+      let o = onward (times n (item 1 t)) s q (r .is) in
+      let g : got (run (times n (item 1 t)) s q) ≡ r .what = ap got (sym (r .is)) in
+      record { ends = o; whole = rw (said .size, g) (omega (arith, m .0, o)); few = m .1 }
 
 -- what a value is: a scalar that was read, or nothing that gives an alignment
 module _ (s : List ℕ) where
@@ -164,7 +122,7 @@ module _ (s : List ℕ) where
   other-value e t p =
       sure-if (ltb 0 (scalarWidth t)) _ _ (λ i. sure-then whatever (λ v q h. sure-done (λ j. clash i j)))
       (λ i. sure-if (eqb t 8) _ _ (λ j. sure-here _ (sure-then whatever (λ a q h. sure-done (λ j. refl))))
-      (λ j. sure-if (eqb t 9) _ _ (λ i. sure-then whatever (λ t q h. sure-check (itemType 0 t) 31 0 _ (λ i. sure-then whatever (λ n q h. sure-then whatever (λ l q h. sure-done (λ j. refl)))))) (λ j. sure-refuse)))
+      (λ j. sure-if (eqb t 9) _ _ (λ i. sure-then whatever (λ t q h. sure-check (itemType (depth - 1) t) 31 0 _ (λ i. sure-then whatever (λ n q h. sure-then whatever (λ l q h. sure-done (λ j. refl)))))) (λ j. sure-refuse)))
 
   scalar-read : (t p : ℕ) → Sure s (scalar t) p (λ v q. (o : ℕ) × (accepted v o ≡ run (number (scalarWidth t) true) s p))
   unfolding scalar
@@ -206,10 +164,6 @@ module _ (s : List ℕ) (e t at : ℕ) (there : isAccepted (run (value e t) s at
 
 -- the sizes, as the code has them
 module _ (s : List ℕ) (k : Dialect) (at : ℕ) where
-  pub array-size : {c : Content (suc depth)} {e t n q : ℕ} → accepted c e ≡ run (array depth (item depth)) s at → Measured k c e t n q
-      → sizeWidth k + 4 + (e - q) + n * wider k t ≡ length (valueBytes (suc depth) k (contentRead (run (array depth (item depth)) s at)))
-  array-size there m = rw (heard-one there) (omega (arith, m .ends, m .whole))
-
   module _ {e t : ℕ} (there : To e ≡ stepOf (run (value e t) s at)) where
     pub text-size : t ≡ 8 → sizeWidth k + (e - at) ≡ length (valueBytes (suc depth) k (contentRead (run (value e t) s at)))
     text-size h =

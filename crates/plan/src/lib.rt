@@ -8,6 +8,7 @@ use layout::Placed;
 use scalars::ScalarWidth;
 use sheet::Checked;
 use sheet::EntryParts;
+use sheet::Stepped;
 use sheet::TensorFound;
 use sheet::TensorParts;
 use values::Dialect;
@@ -183,9 +184,10 @@ fn take_from(room: Room, n: usize) -> Room
     }
 }
 
-// The room without an array, as it will stand in the header: items keep their bytes there, but for
-// the sizes of texts.
-fn array_room(room: Room, s: &[u8], at: usize, end: usize, dialect: Dialect) -> Room
+// The room without an array, as it will stand in the header, in which, itself counted, depth arrays
+// may stand in one another. Items that are no arrays keep their bytes there, but for the sizes of
+// texts, so that they are not looked at.
+fn array_room(room: Room, s: &[u8], at: usize, end: usize, dialect: Dialect, depth: u64) -> Room
     requires { ⌜ To end ≡ stepOf (run (format.array depth (format.item depth)) (now s) at) ⌝ }
     ensures { λ r. ⌜ r ≡ steps.takenFrom room (length (valueBytes (suc depth) dialect (steps.contentRead (run (format.array depth (format.item depth)) (now (s .entry)) at)))) ⌝ }
 {
@@ -196,13 +198,36 @@ fn array_room(room: Room, s: &[u8], at: usize, end: usize, dialect: Dialect) -> 
         return room;
     };
     let width = size_width(dialect);
+    let begun = take_from(room, width + 4);
+    if t == 9 {
+        return arrays_room(begun, s, q, n, dialect, depth - 1);
+    }
     let wider = if t == 8 {
         (width - 4) * (n as usize)
     } else {
         0
     };
-    let items = take_from(take_from(room, width + 4), end - q);
-    take_from(items, wider)
+    take_from(take_from(begun, end - q), wider)
+}
+
+// The room without n arrays, which are all there. Each is passed first, to know where it ends. This
+// and `array_room` call each other at most depth times, so that depth bounds their stack.
+fn arrays_room(room: Room, s: &[u8], at: usize, n: u64, dialect: Dialect, depth: u64) -> Room
+    requires { ⌜ isAccepted (run (times n (format.array depth (format.item depth))) (now s) at) ≡ true ⌝ }
+    ensures { λ r. ⌜ r ≡ steps.takenFrom room (length (bytesOfAll (valueBytes (suc depth) dialect) (got (run (times n (format.array depth (format.item depth))) (now (s .entry)) at)))) ⌝ }
+{
+    let mut left = room;
+    let mut from = at;
+    let mut i: u64 = 0;
+    while i < n {
+        let Stepped::To { next } = sheet::pass_array(s, from, depth) else {
+            return left;
+        };
+        left = array_room(left, s, from, next, dialect, depth);
+        from = next;
+        i += 1;
+    }
+    left
 }
 
 // The room without a value, which is of the type form and ends at end.
@@ -211,7 +236,7 @@ fn value_room(room: Room, s: &[u8], at: usize, end: usize, form: u64, dialect: D
     ensures { λ r. ⌜ r ≡ steps.takenFrom room (length (valueBytes (suc depth) dialect (steps.contentRead (run (format.value end form) (now (s .entry)) at)))) ⌝ }
 {
     if form == 9 {
-        return array_room(room, s, at, end, dialect);
+        return array_room(room, s, at, end, dialect, 4);
     }
     let len = end - at;
     if form == 8 {

@@ -10,7 +10,7 @@ use Rattle.fields.specs.Value.{number}
 use Rattle.kinds.specs.Table.{blockOf}
 use Rattle.layout.specs.Layout.{placeOf, layoutFrom}
 use Rattle.scalars.specs.Scalars.{scalarWidth}
-use Rattle.values.specs.Format.{size, textLooking, text as textRead, key, type, value, valueOf, entry}
+use Rattle.values.specs.Format.{size, textLooking, text as textRead, key, type, value as valueRead, valueOf, array as arrayRead, entry}
 use Rattle.tensors.specs.Format.{lengthAt, lengthsOf, shape as shapeRead, kindAndOffset, tensor as tensorRead}
 use Rattle.start.specs.Format.{magic, version, counts, start}
 use Rattle.header.specs.Format.{header}
@@ -19,16 +19,16 @@ use Rattle.tensors.specs.Contents.{lengthBytes, shapeBytes, kindAndOffsetBytes,
 use Rattle.start.specs.Contents.{startBytes}
 use Rattle.header.specs.Contents.{headerBytes}
 use Rattle.header.proofs.Examples.{no-records, no-records-1, two-tensors, two-tensors-1}
-use Rattle.sheet.specs.Format.{bytes, textOf, text, opening, framed, shape, tensorBody, tensor}
-use Rattle.sheet.specs.Sheet.{asMany, entriesFrom, tensorsFrom, sheetOf}
+use Rattle.sheet.specs.Format.{bytes, textOf, text, scalar, array, item, value, opening, framed, entryBody, metadata, shape, tensorBody, tensor}
+use Rattle.sheet.specs.Sheet.{asMany, next, entriesFrom, tensorsFrom, sheetOf}
 use Rattle.plan.specs.Plan.{planFor}
 use Rattle.writer.specs.Output.{headerFor}
 use Rattle.promises.specs.Known.{Known}
 
 pub known : Known
 unfolding under header magic version start counts size textRead textLooking shapeRead kindAndOffset tensorRead
-    run each checkEach number here _>>=_ andThen seen key type value valueOf entry lengthsOf lengthAt blockOf placeOf layoutFrom
-    sheetOf entriesFrom tensorsFrom asMany text textOf bytes opening framed shape tensorBody tensor planFor headerFor
+    run each checkEach number here _>>=_ andThen seen key type valueRead valueOf arrayRead entry lengthsOf lengthAt blockOf placeOf layoutFrom
+    sheetOf entriesFrom tensorsFrom asMany next text textOf bytes scalar array item value opening framed entryBody metadata shape tensorBody tensor planFor headerFor
     headerBytes startBytes sizeBytes textBytes typeBytes valueBytes entryBytes lengthBytes shapeBytes kindAndOffsetBytes tensorBytes bytesOf little bytesOfAll scalarWidth
 known = record {
   empty-3 = no-records;
@@ -72,6 +72,13 @@ known = record {
   misaligned-empty = refl;
   misaligned-last = refl;
   aligned-last = refl;
+  lists-read = refl;
+  four-read = refl;
+  fourth-empty-read = refl;
+  fifth-read = refl;
+  third-cut = refl;
+  third-type = refl;
+  tokens-read = refl;
   no-sheet = λ out. refl;
   only-version = refl;
   then-zeros = refl;
@@ -87,4 +94,9 @@ known = record {
   output-3 = refl;
   output-1 = refl;
   output-big = refl;
+  output-lists = refl;
+  written-lists = refl;
+  output-third = refl;
+  output-fourth = refl;
+  bad-fourth = λ out. refl;
 }

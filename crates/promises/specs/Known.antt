@@ -1,5 +1,5 @@
 -- The known numbers, as one table: files and sheets byte by byte, and what the definitions say.
-use Prim.Native.Nat.{ℕ, _-_, _^_}
+use Prim.Native.Nat.{ℕ, _+_, _-_, _^_}
 use mathlib.Core.Path.{_≡_}
 use mathlib.Core.List.{List, [], _∷_, _++_, map}
 use mathlib.Core.Bool.{true, false}
@@ -9,6 +9,7 @@ use Rattle.kinds.specs.declared.Measure.the-variants.{Bytes, Refused as Unmeasu
 use Rattle.kinds.specs.Shape.{measureOf}
 use Rattle.layout.specs.Layout.{Piece, laidOut, layoutOf}
 use Rattle.values.specs.declared.Dialect.{Dialect}
+use Rattle.values.specs.declared.Value.the-variants.{Array}
 use Rattle.tensors.specs.declared.Tensor.{Tensor}
 use Rattle.tensors.specs.Rows.{tensorRow}
 use Rattle.header.specs.declared.Header.{Header}
@@ -106,12 +107,58 @@ tensorsBig =
     0 ∷ 0 ∷ 0 ∷ 0 ∷ 0 ∷ 0 ∷ 0 ∷ 1 ∷ 97 ∷ 0 ∷ 0 ∷ 0 ∷ 1 ∷ 0 ∷ 0 ∷ 0 ∷ 0 ∷ 0 ∷ 0 ∷ 0 ∷ 5 ∷ 0 ∷ 0 ∷ 0 ∷ 0 ∷ 0 ∷ 0 ∷ 0 ∷ 0 ∷ 0 ∷ 0 ∷ 0 ∷ 0 ∷
     0 ∷ 0 ∷ 0 ∷ 0 ∷ 0 ∷ 0 ∷ 0 ∷ 1 ∷ 98 ∷ 0 ∷ 0 ∷ 0 ∷ 1 ∷ 0 ∷ 0 ∷ 0 ∷ 0 ∷ 0 ∷ 0 ∷ 0 ∷ 3 ∷ 0 ∷ 0 ∷ 0 ∷ 1 ∷ 0 ∷ 0 ∷ 0 ∷ 0 ∷ 0 ∷ 0 ∷ 0 ∷ 32 ∷ []
 
--- The record sheet of those two: lengths, tags, names, kinds and shapes.
+-- version 1, no tensors, and one entry: the key has these bytes behind its length, and its value is
+-- the array of those bytes
+abbrev pub arrayUnder : List ℕ → List ℕ → List ℕ
+arrayUnder key array = (0x47 ∷ 0x47 ∷ 0x55 ∷ 0x46 ∷ 1 ∷ 0 ∷ 0 ∷ 0 ∷ 0 ∷ 0 ∷ 0 ∷ 0 ∷ 1 ∷ 0 ∷ 0 ∷ 0 ∷ key) ++ (9 ∷ 0 ∷ 0 ∷ 0 ∷ array)
+
+-- the same under the key a
+abbrev pub arrayIn1 : List ℕ → List ℕ
+arrayIn1 array = arrayUnder (1 ∷ 0 ∷ 0 ∷ 0 ∷ 97 ∷ []) array
+
+-- under the key tokenizer.x
+abbrev pub tokensIn1 : List ℕ → List ℕ
+tokensIn1 array = arrayUnder (11 ∷ 0 ∷ 0 ∷ 0 ∷ 116 ∷ 111 ∷ 107 ∷ 101 ∷ 110 ∷ 105 ∷ 122 ∷ 101 ∷ 114 ∷ 46 ∷ 120 ∷ []) array
+
+-- what stands before the items of an array in version 1: its item type and its count
+abbrev pub items1 : ℕ → ℕ → List ℕ
+items1 t n = t ∷ 0 ∷ 0 ∷ 0 ∷ n ∷ 0 ∷ 0 ∷ 0 ∷ []
+
+-- three arrays in one another, each of one item, and that of the third
+abbrev pub inThree : List ℕ → List ℕ
+inThree l = items1 9 1 ++ items1 9 1 ++ items1 9 1 ++ l
+
+-- the lists 1, 2 and 3 of u8
+abbrev pub lists : List ℕ
+lists = items1 9 2 ++ items1 0 2 ++ (1 ∷ 2 ∷ []) ++ items1 0 1 ++ (3 ∷ [])
+
+-- five lists of several types, with items and without
+abbrev pub fiveLists : List ℕ
+fiveLists = items1 9 5 ++ items1 0 0 ++ items1 0 2 ++ (1 ∷ 2 ∷ []) ++ items1 8 0 ++ items1 9 0 ++ items1 0 1 ++ (3 ∷ [])
+
+-- The record sheet of those two tensors: lengths, tags, names, kinds and shapes.
 abbrev pub sheetAB : List ℕ
 sheetAB =
     1 ∷
     0 ∷ 0 ∷ 0 ∷ 19 ∷ 2 ∷ 0 ∷ 0 ∷ 0 ∷ 1 ∷ 97 ∷ 0 ∷ 0 ∷ 0 ∷ 0 ∷ 1 ∷ 0 ∷ 0 ∷ 0 ∷ 0 ∷ 0 ∷ 0 ∷ 0 ∷ 5 ∷
     0 ∷ 0 ∷ 0 ∷ 19 ∷ 2 ∷ 0 ∷ 0 ∷ 0 ∷ 1 ∷ 98 ∷ 0 ∷ 0 ∷ 0 ∷ 1 ∷ 1 ∷ 0 ∷ 0 ∷ 0 ∷ 0 ∷ 0 ∷ 0 ∷ 0 ∷ 3 ∷ []
+
+-- the sheet of the entry a, whose value is the lists
+abbrev pub sheetLists : List ℕ
+sheetLists =
+    1 ∷
+    0 ∷ 0 ∷ 0 ∷ 25 ∷ 1 ∷ 0 ∷ 0 ∷ 0 ∷ 1 ∷ 97 ∷ 9 ∷ 9 ∷ 0 ∷ 0 ∷ 0 ∷ 2 ∷
+    0 ∷ 0 ∷ 0 ∷ 0 ∷ 2 ∷ 1 ∷ 2 ∷
+    0 ∷ 0 ∷ 0 ∷ 0 ∷ 1 ∷ 3 ∷ []
+
+-- the sheet of the entry a, whose value is three arrays in one another, the third of which has no
+-- items, of the type 9
+abbrev pub sheetThird : List ℕ
+sheetThird = 1 ∷ 0 ∷ 0 ∷ 0 ∷ 22 ∷ 1 ∷ 0 ∷ 0 ∷ 0 ∷ 1 ∷ 97 ∷ 9 ∷ 9 ∷ 0 ∷ 0 ∷ 0 ∷ 1 ∷ 9 ∷ 0 ∷ 0 ∷ 0 ∷ 1 ∷ 9 ∷ 0 ∷ 0 ∷ 0 ∷ 0 ∷ []
+
+-- four, the fourth of which has no items, of the type t
+abbrev pub sheetFourth : ℕ → List ℕ
+sheetFourth t = 1 ∷ 0 ∷ 0 ∷ 0 ∷ 27 ∷ 1 ∷ 0 ∷ 0 ∷ 0 ∷ 1 ∷ 97 ∷ 9 ∷ 9 ∷ 0 ∷ 0 ∷ 0 ∷ 1 ∷ 9 ∷ 0 ∷ 0 ∷ 0 ∷ 1 ∷ 9 ∷ 0 ∷ 0 ∷ 0 ∷ 1 ∷ t ∷ 0 ∷ 0 ∷ 0 ∷ 0 ∷ []
 
 -- What is read of them.
 
@@ -164,6 +211,15 @@ scalarA = record {
 -- the answer for a file of version 3 with one tensor, that ends at e and has its data at 64
 abbrev pub only : Tensor → ℕ → Answer FullHeader
 only t e = accepted (record { head = plain 3 1 e 64; entries = []; tensors = t ∷ [] }) e
+
+-- the answer for a file of version 1 whose only entry is an array, under the key of l bytes at 20: n
+-- items that are arrays, of which m are kept; it ends at e and has its data at d
+abbrev pub onlyArrays : ℕ → ℕ → ℕ → ℕ → ℕ → Answer FullHeader
+onlyArrays l n m e d = accepted (record {
+  head = record { version = 1; big = false; turned = false; entries = 1; tensors = 0; alignment = 32; end = e; start = d };
+  entries = record { key = record { place = 20; len = l }; «is_alignment» = false; value = Array (record { item = 9; count = n; kept = m; first = 32 + l }) } ∷ [];
+  tensors = [];
+}) e
 
 -- a tensor of one length that is to be laid
 abbrev pub piece : ℕ → ℕ → Piece
@@ -230,6 +286,17 @@ pub record Known : Type 0 where
   pub misaligned-last : readerRun full 0 ([] ∷ [] ∷ []) ([] ∷ []) (alignedLast3 32) ≡ refused 16 96
   pub aligned-last : seen (λ w. w .head) (readerRun full 0 ([] ∷ [] ∷ []) ([] ∷ []) (alignedLast3 64))
       ≡ accepted (record { version = 3; big = false; turned = false; entries = 2; tensors = 1; alignment = 64; end = 104; start = 128 }) 104
+  -- a list of two lists, of which the row tells the outer one; four arrays in one another, with items
+  -- and without, whatever the item type; a fifth is refused at the item type of the fourth
+  pub lists-read : readerRun full 0 ([] ∷ []) [] (arrayIn1 lists) ≡ onlyArrays 1 2 2 52 64
+  pub four-read : readerRun full 0 ([] ∷ []) [] (arrayIn1 (inThree (items1 0 2 ++ (5 ∷ 6 ∷ [])))) ≡ onlyArrays 1 1 1 59 64
+  pub fourth-empty-read : readerRun full 0 ([] ∷ []) [] (arrayIn1 (inThree (items1 9 0))) ≡ onlyArrays 1 1 1 57 64
+  pub fifth-read : readerRun full 0 ([] ∷ []) [] (arrayIn1 (inThree (items1 9 1 ++ items1 0 0))) ≡ refused 9 49
+  -- a cut inside the third array, and a type above 12 in it, are refused at their places
+  pub third-cut : readerRun full 0 ([] ∷ []) [] (arrayIn1 (items1 9 1 ++ items1 9 1 ++ items1 0 2 ++ (5 ∷ []))) ≡ refused 1 50
+  pub third-type : readerRun full 0 ([] ∷ []) [] (arrayIn1 (items1 9 1 ++ items1 9 1 ++ items1 13 0)) ≡ refused 8 41
+  -- of a tokenizer's lists a cap of 3 keeps three, and all are checked
+  pub tokens-read : readerRun full 3 ([] ∷ []) [] (tokensIn1 fiveLists) ≡ onlyArrays 11 5 3 86 96
   -- a sheet of no bytes is refused, whatever the output
   pub no-sheet : (out : List ℕ) → answerFor (little 3) 32 [] out ≡ NotWritten 31 0
   -- the sheet of the byte 1: 24 bytes, then 8 zeros
@@ -251,3 +318,10 @@ pub record Known : Type 0 where
   pub output-3 : outputFor (little 3) 32 sheetAB (replicate 96 255) ≡ tensors3 ++ replicate 6 0
   pub output-1 : outputFor (little 1) 32 sheetAB (replicate 96 255) ≡ tensors1 ++ replicate 22 0
   pub output-big : outputFor (big 3) 32 sheetAB (replicate 96 255) ≡ tensorsBig ++ replicate 6 0
+  -- the sheet of the lists becomes the file above; an item type of arrays stands in the third array
+  -- without items, and in the fourth it is bad
+  pub output-lists : outputFor (little 1) 32 sheetLists (replicate 64 255) ≡ arrayIn1 lists ++ replicate 12 0
+  pub written-lists : answerFor (little 3) 32 sheetLists (replicate 96 255) ≡ Written 76 96
+  pub output-third : outputFor (little 1) 32 sheetThird (replicate 64 255) ≡ arrayIn1 (items1 9 1 ++ items1 9 1 ++ items1 9 0) ++ replicate 15 0
+  pub output-fourth : outputFor (little 1) 32 (sheetFourth 0) (replicate 64 255) ≡ arrayIn1 (inThree (items1 0 0)) ++ replicate 7 0
+  pub bad-fourth : (out : List ℕ) → answerFor (little 3) 32 (sheetFourth 9) out ≡ NotWritten 31 1

@@ -9,7 +9,7 @@ use native.Mathlib.Numerals.{add-one}
 use lib.ListN.{length, take, drop, set, take-append-drop}
 use lib.Seq.{drop-drop, take-suc-set, drop-set-lt}
 use lib.Dec.{T}
-use Rattle.reading.specs.Back.{got}
+use Rattle.reading.specs.Back.{got, bytesOfAll}
 use Rattle.reading.specs.Each.{each, times, fold, filled}
 use Rattle.reading.specs.Reading.{Reading, done, Answer, accepted, refused, run, _>>=_, andThen, seen, passed, isAccepted}
 use Rattle.reading.proofs.RunLaws.{run-bind, goes-on, stops}
@@ -137,15 +137,6 @@ unfolding seen
 seen-none g (accepted a q) e = let z : _≡_ {A = ℕ} 0 1 = cc in absurd (omega arith)
 seen-none g (refused n p) e = cc
 
--- a turn of a repetition of which only the place is kept: from what is kept of one item
-module _ {A : Type 0} (m : Reading A) (s : List ℕ) (at n i : ℕ) (below : i < n) where
-  pub passed-on : {q : ℕ} → accepted tt q ≡ passed (run m s at) → passed (run (times (n - i) m) s at) ≡ passed (run (times (n - (i + 1)) m) s q)
-  passed-on e = let r = seen-parts (λ a. tt) (run m s at) e in times-passed m s at n i below (r .1)
-
-  pub passed-not : {w p : ℕ} → refused w p ≡ passed (run m s at) → passed (run (times (n - i) m) s at) ≡ refused w p
-  unfolding seen
-  passed-not e = ap passed (times-stops m s at n i below (seen-none (λ a. tt) (run m s at) e))
-
 module _ {A B : Type 0} (g : A → B) (m : Reading A) (s : List ℕ) (at : ℕ) where
   pub seen-accepted : {b : B} {q : ℕ} → accepted b q ≡ seen g (run m s at) → (a : A) × (accepted a q ≡ run m s at) × (b ≡ g a)
   seen-accepted e = seen-parts g (run m s at) e
@@ -153,19 +144,61 @@ module _ {A B : Type 0} (g : A → B) (m : Reading A) (s : List ℕ) (at : ℕ) 
   pub seen-refused : {n p : ℕ} → refused n p ≡ seen g (run m s at) → refused n p ≡ run m s at
   seen-refused e = seen-none g (run m s at) e
 
--- two programs of which the same is kept, and what is kept of them so many times
-module _ {A B : Type 0} (m : Reading A) (k : Reading B) (s : List ℕ) (alike : (p : ℕ) → passed (run m s p) ≡ passed (run k s p)) where
-  alike-turn : (n at : ℕ) → ((q : ℕ) → passed (run (times n m) s q) ≡ passed (run (times n k) s q)) → (r : Answer (Unit {0})) → r ≡ passed (run m s at)
-      → passed (run (times (suc n) m) s at) ≡ passed (run (times (suc n) k) s at)
-  alike-turn n at rest (accepted tt q) e =
+-- one more, as a view shows each
+map-cons : {A C : Type 0} (f : A → C) (a : A) (r : Answer (List A)) → seen (map f) (andThen r (λ l p. accepted (a ∷ l) p)) ≡ seen (λ l. f a ∷ l) (seen (map f) r)
+unfolding andThen seen
+map-cons f a (accepted l p) = refl
+map-cons f a (refused n p) = refl
+
+-- so many, as a view shows each: what comes first and the others, or a refusal
+module _ {A C : Type 0} (f : A → C) (m : Reading A) (s : List ℕ) (n at : ℕ) where
+  shown-more : {c : C} {q : ℕ} → accepted c q ≡ seen f (run m s at) → seen (map f) (run (times (suc n) m) s at) ≡ seen (λ l. c ∷ l) (seen (map f) (run (times n m) s q))
+  shown-more {c} {q} e =
       let all : suc n - 0 ≡ suc n = omega arith in
       let less : suc n - (0 + 1) ≡ n = omega arith in
-      rw (all, less) at (passed-on m s at (suc n) 0 (omega arith) e) ∙ rest q ∙ sym (rw (all, less) at (passed-on k s at (suc n) 0 (omega arith) (e ∙ alike at)))
-  alike-turn n at rest (refused w p) e =
-      let all : suc n - 0 ≡ suc n = omega arith in
-      rw all at (passed-not m s at (suc n) 0 (omega arith) e) ∙ sym (rw all at (passed-not k s at (suc n) 0 (omega arith) (e ∙ alike at)))
+      let r = seen-parts f (run m s at) e in
+      let h = each-more {S = Unit {0}} (λ z. m) (λ z a. z) s at (suc n) 0 tt (omega arith) (r .1) in
+      rw (r .2) (ap (seen (map f)) (rw (all, less) at h) ∙ map-cons f (r .0) (run (times n m) s q))
 
-  pub times-alike : (n at : ℕ) → passed (run (times n m) s at) ≡ passed (run (times n k) s at)
+  shown-not : {w p : ℕ} → refused w p ≡ seen f (run m s at) → seen (map f) (run (times (suc n) m) s at) ≡ refused w p
+  unfolding seen
+  shown-not e =
+      let all : suc n - 0 ≡ suc n = omega arith in
+      ap (seen (map f)) (rw all at (times-stops m s at (suc n) 0 (omega arith) (seen-none f (run m s at) e)))
+
+-- two programs of which views show the same, and what these show of them so many times
+module _ {A B C : Type 0} (f : A → C) (g : B → C) (m : Reading A) (k : Reading B) (s : List ℕ) (alike : (p : ℕ) → seen f (run m s p) ≡ seen g (run k s p)) where
+  alike-turn : (n at : ℕ) → ((q : ℕ) → seen (map f) (run (times n m) s q) ≡ seen (map g) (run (times n k) s q)) → (r : Answer C) → r ≡ seen f (run m s at)
+      → seen (map f) (run (times (suc n) m) s at) ≡ seen (map g) (run (times (suc n) k) s at)
+  alike-turn n at rest (accepted c q) e = shown-more f m s n at e ∙ ap (seen (λ l. c ∷ l)) (rest q) ∙ sym (shown-more g k s n at (e ∙ alike at))
+  alike-turn n at rest (refused w p) e = shown-not f m s n at e ∙ sym (shown-not g k s n at (e ∙ alike at))
+
+  times-same : (n at : ℕ) → seen (map f) (run (times n m) s at) ≡ seen (map g) (run (times n k) s at)
   unfolding each run seen
-  times-alike zero at = refl
-  times-alike (suc n) at = alike-turn n at (times-alike n) (passed (run m s at)) refl
+  times-same zero at = refl
+  times-same (suc n) at = alike-turn n at (times-same n) (seen f (run m s at)) refl
+
+-- of each only the place is kept
+passed-map : {A C : Type 0} (f : A → C) (r : Answer (List A)) → passed (seen (map f) r) ≡ passed r
+unfolding seen
+passed-map f (accepted l q) = refl
+passed-map f (refused n p) = refl
+
+pub times-alike : {A B : Type 0} (m : Reading A) (k : Reading B) (s : List ℕ) → ((p : ℕ) → passed (run m s p) ≡ passed (run k s p)) → (n at : ℕ) → passed (run (times n m) s at) ≡ passed (run (times n k) s at)
+times-alike m k s alike n at =
+    sym (passed-map (λ a. tt {0}) (run (times n m) s at)) ∙ ap passed (times-same (λ a. tt {0}) (λ b. tt {0}) m k s alike n at) ∙ passed-map (λ b. tt {0}) (run (times n k) s at)
+
+-- or its bytes: rows of what a view shows
+pub rows-map : {A C : Type 0} (enc : C → List ℕ) (view : A → C) (l : List A) → bytesOfAll enc (map view l) ≡ bytesOfAll (λ a. enc (view a)) l
+unfolding bytesOfAll
+rows-map enc view [] = refl
+rows-map enc view (a ∷ l) = ap (λ r. enc (view a) ++ r) (rows-map enc view l)
+
+bytes-map : {A : Type 0} (enc : A → List ℕ) (r : Answer (List A)) → seen (bytesOfAll (λ b. b)) (seen (map enc) r) ≡ seen (bytesOfAll enc) r
+unfolding seen
+bytes-map enc (accepted l q) = ap (λ b. accepted b q) (rows-map (λ b. b) enc l)
+bytes-map enc (refused n p) = refl
+
+pub times-bytes : {A B : Type 0} (f : A → List ℕ) (g : B → List ℕ) (m : Reading A) (k : Reading B) (s : List ℕ) → ((p : ℕ) → seen f (run m s p) ≡ seen g (run k s p)) → (n at : ℕ) → seen (bytesOfAll f) (run (times n m) s at) ≡ seen (bytesOfAll g) (run (times n k) s at)
+times-bytes f g m k s alike n at =
+    sym (bytes-map f (run (times n m) s at)) ∙ ap (seen (bytesOfAll (λ b. b))) (times-same f g m k s alike n at) ∙ bytes-map g (run (times n k) s at)

@@ -10,7 +10,7 @@ use lib.Seq.{take-take, take-append-le, drop-append-le}
 use lib.Dec.{T, leb}
 use borrow.Author.Tests.{leb-true, le-leb, ne-eqb}
 use Rattle.reading.specs.Choice.{if_then_else_}
-use Rattle.reading.specs.Reading.{Reading, done, refuse, place, field, known, Answer, accepted, refused, run, _>>=_, next, skip, andThen, seen, final}
+use Rattle.reading.specs.Reading.{Reading, done, refuse, place, field, known, Answer, accepted, refused, run, _>>=_, next, skip, andThen, seen, final, isAccepted}
 
 -- a field that is wholly looked at, and one that nothing looks at
 pub run-next : {A : Type 0} (w : ℕ) (k : List ℕ → Reading A) (s : List ℕ) (at : ℕ) → run (next w k) s at ≡ (if leb (at + w) (length s) then run (k (take w (drop at s))) s (at + w) else refused 1 at)
@@ -72,6 +72,13 @@ final-run view r h = subst T (final-seen view r) h
 -- a refusal with any other number is one that stays
 pub other-than-1 : {A : Type 0} (r : Answer A) {n p : ℕ} → refused n p ≡ r → (n ≡ 1 → ⊥) → T (final r)
 other-than-1 r {n} e h = subst (λ x. T (final x)) e (rw (ne-eqb n 1 h) tt)
+
+-- what is refused is not accepted
+pub not-there : {A : Type 0} {r : Answer A} {n p : ℕ} → r ≡ refused n p → isAccepted r ≡ true → ⊥
+not-there e h =
+    let f : false ≡ true = sym (ap isAccepted e) ∙ h in
+    let z : _≡_ {A = ℕ} 0 1 = cc in
+    omega arith
 
 -- the two ways on from a first program, as its caller has them
 pub goes-on : {A B : Type 0} (m : Reading A) (f : A → Reading B) (s : List ℕ) (at : ℕ) {a : A} {q : ℕ} → accepted a q ≡ run m s at → run (m >>= f) s at ≡ run (f a) s q

@@ -6,7 +6,7 @@ use mathlib.Core.List.{List}
 use mathlib.Core.Bool.{true}
 use native.Mathlib.Omega.{arith}
 use lib.ListN.{length}
-use Rattle.reading.specs.Reading.{Reading, Answer, accepted, refused, run, andThen, seen, passed, isAccepted}
+use Rattle.reading.specs.Reading.{Reading, Answer, accepted, refused, run, andThen, seen, isAccepted}
 use Rattle.reading.specs.Each.{times}
 use Rattle.reading.proofs.Repetition.{times-stops, times-passed, times-never}
 use Rattle.tensors.specs.declared.Shape.{Shape}
@@ -47,6 +47,9 @@ step-no r e = only stepOf Bad (λ a q h. let z : _≡_ {A = ℕ} 0 1 = cc in abs
 pub step-yes : {A : Type 0} (r : Answer A) {q : ℕ} → To q ≡ stepOf r → Shows (λ a. tt {0}) tt q r
 step-yes (accepted a p) {q} e = let k : q ≡ p = cc in record { what = a; is = ap (accepted a) k; told = refl }
 step-yes (refused n p) e = let z : _≡_ {A = ℕ} 0 1 = cc in absurd (omega arith)
+
+pub step-there : {A : Type 0} (r : Answer A) {q : ℕ} → To q ≡ stepOf r → isAccepted r ≡ true
+step-there r e = ap isAccepted (sym (step-yes r e .is))
 
 -- a text's place
 pub span-no : (r : Answer Text) → NoText ≡ spanOf r → Refusal r
@@ -95,16 +98,17 @@ unfolding andThen
 step-then g (accepted a q) = refl
 step-then g (refused n p) = refl
 
-step-passed : {A : Type 0} (r : Answer A) → stepOf (passed r) ≡ stepOf r
+-- nor does what is seen of it
+pub step-seen : {A C : Type 0} (view : A → C) (r : Answer A) → stepOf (seen view r) ≡ stepOf r
 unfolding seen
-step-passed (accepted a q) = refl
-step-passed (refused n p) = refl
+step-seen view (accepted a q) = refl
+step-seen view (refused n p) = refl
 
 -- a turn of a repetition of which only the place is told
 module _ {A : Type 0} (m : Reading A) (s : List ℕ) (at n i : ℕ) (below : i < n) where
   pub steps-on : {q : ℕ} → To q ≡ stepOf (run m s at) → stepOf (run (times (n - i) m) s at) ≡ stepOf (run (times (n - (i + 1)) m) s q)
   steps-on e =
-      sym (step-passed (run (times (n - i) m) s at)) ∙ ap stepOf (times-passed m s at n i below (step-yes (run m s at) e .is)) ∙ step-passed (run (times (n - (i + 1)) m) s _)
+      sym (step-seen (λ l. tt {0}) (run (times (n - i) m) s at)) ∙ ap stepOf (times-passed m s at n i below (step-yes (run m s at) e .is)) ∙ step-seen (λ l. tt {0}) (run (times (n - (i + 1)) m) s _)
 
   pub steps-not : Bad ≡ stepOf (run m s at) → stepOf (run (times (n - i) m) s at) ≡ Bad
   steps-not e = ap stepOf (times-stops m s at n i below (step-no (run m s at) e .is))

@@ -127,10 +127,39 @@ pub no-items : sheetOf (1 ∷ meta 97 12 (9 ∷ 4 ∷ 0 ∷ 0 ∷ 0 ∷ 0 ∷ []
 unfolding sheetOf entriesFrom tensorsFrom asMany andThen next metadata run _>>=_ here number framed opening entryBody text textOf bytes value scalar scalarWidth array item each
 no-items = refl
 
--- but no array of arrays, not even an empty one
-pub no-arrays : sheetOf (1 ∷ meta 97 12 (9 ∷ 9 ∷ 0 ∷ 0 ∷ 0 ∷ 0 ∷ [])) ≡ refused 31 1
+-- also where its items would be arrays
+pub no-arrays : sheetOf (1 ∷ meta 97 12 (9 ∷ 9 ∷ 0 ∷ 0 ∷ 0 ∷ 0 ∷ [])) ≡ accepted (record { entries = metaAt 10 97 9 (anArray 9 []) ∷ []; first = 17; tensors = [] }) 17
 unfolding sheetOf entriesFrom tensorsFrom asMany andThen next metadata run _>>=_ here number framed opening entryBody text textOf bytes value scalar scalarWidth array item each
 no-arrays = refl
+
+-- an array of an array of one byte and an array of one string
+pub arrays : sheetOf (1 ∷ meta 97 28 (9 ∷ 9 ∷ 0 ∷ 0 ∷ 0 ∷ 2 ∷ 0 ∷ 0 ∷ 0 ∷ 0 ∷ 1 ∷ 7 ∷ 8 ∷ 0 ∷ 0 ∷ 0 ∷ 1 ∷ 0 ∷ 0 ∷ 0 ∷ 1 ∷ 120 ∷ []))
+    ≡ accepted (record { entries = metaAt 10 97 9 (anArray 9 (anArray 0 (aScalar 0 7 ∷ []) ∷ anArray 8 (aText (120 ∷ []) ∷ []) ∷ [])) ∷ []; first = 33; tensors = [] }) 33
+unfolding sheetOf entriesFrom tensorsFrom asMany andThen next metadata run _>>=_ here number framed opening entryBody text textOf bytes value scalar scalarWidth array item each
+arrays = refl
+
+-- three arrays in one another, of one item each, and in the third the fourth
+abbrev four : List ℕ → List ℕ
+four l = 9 ∷ 9 ∷ 0 ∷ 0 ∷ 0 ∷ 1 ∷ 9 ∷ 0 ∷ 0 ∷ 0 ∷ 1 ∷ 9 ∷ 0 ∷ 0 ∷ 0 ∷ 1 ∷ l
+
+-- the items of the fourth are no arrays, not even where there are none
+pub four-arrays : sheetOf (1 ∷ meta 97 28 (four (7 ∷ 0 ∷ 0 ∷ 0 ∷ 1 ∷ 1 ∷ [])))
+    ≡ accepted (record { entries = metaAt 10 97 9 (anArray 9 (anArray 9 (anArray 9 (anArray 7 (aScalar 7 1 ∷ []) ∷ []) ∷ []) ∷ [])) ∷ []; first = 33; tensors = [] }) 33
+unfolding sheetOf entriesFrom tensorsFrom asMany andThen next metadata run _>>=_ here number framed opening entryBody text textOf bytes value scalar scalarWidth array item each
+four-arrays = refl
+
+pub fifth-array : sheetOf (1 ∷ meta 97 27 (four (9 ∷ 0 ∷ 0 ∷ 0 ∷ 0 ∷ []))) ≡ refused 31 1
+unfolding sheetOf entriesFrom tensorsFrom asMany andThen next metadata run _>>=_ here number framed opening entryBody text textOf bytes value scalar scalarWidth array item each
+fifth-array = refl
+
+-- a bool of 2 and a type 13 in the fourth
+pub fourth-bool : sheetOf (1 ∷ meta 97 28 (four (7 ∷ 0 ∷ 0 ∷ 0 ∷ 1 ∷ 2 ∷ []))) ≡ refused 31 1
+unfolding sheetOf entriesFrom tensorsFrom asMany andThen next metadata run _>>=_ here number framed opening entryBody text textOf bytes value scalar scalarWidth array item each
+fourth-bool = refl
+
+pub fourth-type : sheetOf (1 ∷ meta 97 27 (four (13 ∷ 0 ∷ 0 ∷ 0 ∷ 0 ∷ []))) ≡ refused 31 1
+unfolding sheetOf entriesFrom tensorsFrom asMany andThen next metadata run _>>=_ here number framed opening entryBody text textOf bytes value scalar scalarWidth array item each
+fourth-type = refl
 
 -- a bool of 2 in an array
 pub bools : sheetOf (1 ∷ meta 97 14 (9 ∷ 7 ∷ 0 ∷ 0 ∷ 0 ∷ 2 ∷ 1 ∷ 2 ∷ [])) ≡ refused 31 1

@@ -1,6 +1,6 @@
 -- An item or a value of a type is what its form reads: a scalar, a text, an array, or nothing.
 -- Assumes nothing.
-use Prim.Native.Nat.{ℕ, _-_, _<_}
+use Prim.Native.Nat.{ℕ, suc, _-_, _<_}
 use mathlib.Core.Path.{_≡_, refl}
 use mathlib.Core.List.{List}
 use mathlib.Core.Bool.{true, false}
@@ -31,19 +31,21 @@ pub has-none : (t : ℕ) → 0 ≡ scalarWidth t → ltb 0 (scalarWidth t) ≡ f
 has-none t e = le-ltb 0 (scalarWidth t) (omega arith)
 
 module _ (s : List ℕ) (at : ℕ) where
-  pub item-scalar : (t : ℕ) → ltb 0 (scalarWidth t) ≡ true → run (item depth t) s at ≡ andThen (run (scalar t) s at) (λ v q. accepted (aScalar t v) q)
+  -- a scalar or a text, as an item at any depth
+  pub item-scalar : (d t : ℕ) → ltb 0 (scalarWidth t) ≡ true → run (item (suc d) t) s at ≡ andThen (run (scalar t) s at) (λ v q. accepted (aScalar t v) q)
   unfolding item run
-  item-scalar t wide = rw wide (run-bind (scalar t) (λ v. done (aScalar t v)) s at)
+  item-scalar d t wide = rw wide (run-bind (scalar t) (λ v. done (aScalar t v)) s at)
 
-  pub item-text : run (item depth 8) s at ≡ andThen (run text s at) (λ a q. accepted (aText (a .bytes)) q)
+  pub item-text : (d : ℕ) → run (item (suc d) 8) s at ≡ andThen (run text s at) (λ a q. accepted (aText (a .bytes)) q)
   unfolding item scalarWidth run
-  item-text = run-bind text (λ a. done (aText (a .bytes))) s at
+  item-text d = run-bind text (λ a. done (aText (a .bytes))) s at
 
-  -- no other is an item, since no array may stand in an array
-  pub item-none : (t : ℕ) → ltb 0 (scalarWidth t) ≡ false → (t ≡ 8 → ⊥) → run (item depth t) s at ≡ refused 31 0
+  -- no other is one where no array may stand
+  pub item-none : (t : ℕ) → ltb 0 (scalarWidth t) ≡ false → (t ≡ 8 → ⊥) → run (item 1 t) s at ≡ refused 31 0
   unfolding item array run
   item-none t none other = rw (none, ne-eqb t 8 other)
 
+  -- a scalar, a text or an array, as a value
   pub value-scalar : (e t : ℕ) → ltb 0 (scalarWidth t) ≡ true → run (value e t) s at ≡ andThen (run (scalar t) s at) (λ v q. accepted (aScalar t v) q)
   unfolding value run
   value-scalar e t wide = rw wide (run-bind (scalar t) (λ v. done (aScalar t v)) s at)

@@ -20,7 +20,6 @@ ghost use Rattle.reading.specs.Reading.{run, seen, isAccepted};
 ghost use Rattle.reading.specs.Each.{times};
 ghost use Rattle.fields.specs.Value.{widthOf, asNumber};
 ghost use Rattle.scalars.specs.Scalars.{scalarWidth};
-ghost use Rattle.values.specs.Format.{depth};
 ghost use Rattle.values.specs.Contents.{insideOf};
 ghost use Rattle.sheet.specs.declared.EntryFound.the-variants.{Found};
 ghost use Rattle.sheet.specs.Format as format;
@@ -152,9 +151,9 @@ fn scalar_at(s: &[u8], at: usize, t: u64, width: Width) -> Number
     }
 }
 
-// An item of an array, passed.
+// An item of an array, passed, which is no array.
 fn pass_item(s: &[u8], at: usize, t: u64) -> Stepped
-    ensures { λ r. ⌜ r ≡ stepOf (run (format.item depth t) (now (s .entry)) at) ⌝ }
+    ensures { λ r. ⌜ r ≡ stepOf (run (format.item 1 t) (now (s .entry)) at) ⌝ }
 {
     match scalars::scalar_width(t) {
         ScalarWidth::Of { width } => match scalar_at(s, at, t, width) {
@@ -173,9 +172,9 @@ fn pass_item(s: &[u8], at: usize, t: u64) -> Stepped
     }
 }
 
-// Passes n items of the type t.
+// Passes n items of the type t, which are no arrays.
 fn pass_items(s: &[u8], at: usize, n: u64, t: u64) -> Stepped
-    ensures { λ r. ⌜ r ≡ stepOf (run (times n (format.item depth t)) (now (s .entry)) at) ⌝ }
+    ensures { λ r. ⌜ r ≡ stepOf (run (times n (format.item 1 t)) (now (s .entry)) at) ⌝ }
 {
     let mut from = at;
     let mut i: u64 = 0;
@@ -193,28 +192,61 @@ fn pass_items(s: &[u8], at: usize, n: u64, t: u64) -> Stepped
     Stepped::To { next: from }
 }
 
-// An array, passed: its items are no arrays.
-fn pass_array(s: &[u8], at: usize) -> Stepped
+// Whether the items of an array in which depth more may stand in one another may be of the type t.
+fn is_item_type(depth: u64, t: u64) -> bool
+    ensures { λ r. ⌜ r ≡ format.itemType depth t ⌝ }
+{
+    if t == 9 {
+        return 0 < depth;
+    }
+    t <= 12
+}
+
+// An array, passed, in which, itself counted, depth arrays may stand in one another. It and
+// `pass_arrays` call each other at most depth times, so that depth bounds their stack.
+pub fn pass_array(s: &[u8], at: usize, depth: u64) -> Stepped
     ensures { λ r. ⌜ r ≡ stepOf (run (format.array depth (format.item depth)) (now (s .entry)) at) ⌝ }
 {
-    match fields::number_at(s, at, Width::One, true) {
-        Number::Refused { why: _, place: _ } => Stepped::Bad,
-        Number::Value {
-            value: item,
-            next: p,
-        } => {
-            if item == 9 {
+    if depth == 0 {
+        return Stepped::Bad;
+    }
+    let Number::Value { value: t, next: p } = fields::number_at(s, at, Width::One, true) else {
+        return Stepped::Bad;
+    };
+    if !is_item_type(depth - 1, t) {
+        return Stepped::Bad;
+    }
+    let Number::Value {
+        value: n,
+        next: first,
+    } = fields::number_at(s, p, Width::Four, true)
+    else {
+        return Stepped::Bad;
+    };
+    if t == 9 {
+        return pass_arrays(s, first, n, depth - 1);
+    }
+    pass_items(s, first, n, t)
+}
+
+// Passes n arrays, in each of which, itself counted, depth arrays may stand in one another.
+fn pass_arrays(s: &[u8], at: usize, n: u64, depth: u64) -> Stepped
+    ensures { λ r. ⌜ r ≡ stepOf (run (times n (format.array depth (format.item depth))) (now (s .entry)) at) ⌝ }
+{
+    let mut from = at;
+    let mut i: u64 = 0;
+    while i < n {
+        match pass_array(s, from, depth) {
+            Stepped::Bad => {
                 return Stepped::Bad;
             }
-            if 12 < item {
-                return Stepped::Bad;
-            }
-            match fields::number_at(s, p, Width::Four, true) {
-                Number::Refused { why: _, place: _ } => Stepped::Bad,
-                Number::Value { value: n, next } => pass_items(s, next, n, item),
+            Stepped::To { next } => {
+                from = next;
             }
         }
+        i += 1;
     }
+    Stepped::To { next: from }
 }
 
 // The value of the type t of an entry that ends at end, passed.
@@ -228,7 +260,7 @@ fn pass_value(s: &[u8], at: usize, end: usize, t: u64) -> Stepped
         },
         ScalarWidth::None => {
             if t == 9 {
-                return pass_array(s, at);
+                return pass_array(s, at, 4);
             }
             if t != 8 {
                 return Stepped::Bad;

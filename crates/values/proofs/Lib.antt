@@ -4,5 +4,6 @@ pub mod ValuesFit
 pub mod Examples
 pub mod Texts
 pub mod ValueForms
+pub mod ArrayForms
 pub mod ValuesEnd
 pub mod ValueRefusals

@@ -1,6 +1,6 @@
 -- What an entry points at lies before the entry's end, since it was read on the way there. Assumes
 -- nothing.
-use Prim.Native.Nat.{ℕ, zero, _+_, _^_, _≤_}
+use Prim.Native.Nat.{ℕ, _+_, _-_, _^_, _≤_}
 use mathlib.Core.Path.{_≡_}
 use mathlib.Core.Bool.{Bool}
 use mathlib.Core.List.{List}
@@ -64,7 +64,7 @@ module _ (k : Dialect) (s : List ℕ) where
   unfolding array
   array-ends o p =
       sure-here _ (sure-then whatever (λ t q u. sure-then whatever (λ n r v. sure-here _ (sure-then (sure-run whatever) (λ items e g.
-      sure-done (record { items = items; end = e; read = items-anywhere zero k p t n s r (g .1); onward = onward _ s r (g .1); inside = omega arith }))))))
+      sure-done (record { items = items; end = e; read = items-anywhere (depth - 1) k p t n s r (g .1); onward = onward _ s r (g .1); inside = omega arith }))))))
 
   value-ends : (p : ℕ) → Sure s (value k) p (λ v q. ValueEndsBy k s q v)
   unfolding value valueOf

@@ -6,7 +6,7 @@
 --    1  a field that is not wholly there, at the field (`run` gives it, for every program)
 --    7  a text of more than 2 ^ 30 bytes, at its size
 --    8  a value type or an item type above 12, at the type
---    9  an item that is an array where no deeper array is allowed, at the item type
+--    9  an item that is an array where four stand in one another already, at the item type
 use Prim.Native.Nat.{ℕ, zero, suc, _^_, min}
 use mathlib.Core.Bool.{Bool, true, false}
 use mathlib.Core.List.{List, [], _∷_}
@@ -117,9 +117,9 @@ array (suc depth) k o = do
   items ← times n (valueOf (array depth k) k p t)
   done (record { item = t; count = n; kept = n; first = q })
 
--- how many arrays may stand in one another
+-- how many arrays may stand in one another, the outermost counted
 abbrev pub depth : ℕ
-depth = 1
+depth = 4
 
 -- a type, and a value of it
 unfoldable pub value : Dialect → Reading Value

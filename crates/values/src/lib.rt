@@ -4,16 +4,20 @@
 // Every step takes the bytes and a place and answers what stands there with the place after it, or
 // a refusal's number and place. Any slice, any place and any dialect gets an answer. Nothing is
 // copied, and no byte of a text is looked at but where a key is compared.
+//
+// Arrays stand in one another: `read_array`, `pass_items` and `read_value_of` call one another, and
+// the depth falls. What is no array is plain, and is read and passed outside that cycle
+// (`read_plain`, `pass_plain`).
 use fields::Number;
 use fields::Width;
 use rows::EntryRow;
 use scalars::Scalar;
-ghost use Prim.Native.Nat.{_+_, _<_, _≤_};
+ghost use Prim.Native.Nat.{ℕ, _+_, _<_, _≤_};
 ghost use lib.ListN.{drop, length, take};
 ghost use mathlib.Core.Path.{_≡_};
 ghost use Rattle.fields.specs.Value.{asNumber, number};
 ghost use Rattle.reading.specs.Each.{times};
-ghost use Rattle.reading.specs.Reading.{passed, run};
+ghost use Rattle.reading.specs.Reading.{Reading, passed, run};
 ghost use Rattle.scalars.specs.Scalars.{scalarWidth};
 ghost use Rattle.values.specs.Answers.{asArray, asEntry, asKey, asPassed, asText, asValue};
 ghost use Rattle.values.specs.Contents as contents;
@@ -267,64 +271,24 @@ fn pass_scalars(s: &[u8], at: usize, n: u64, dialect: Dialect, t: u64) -> Passed
     Passed::To { next: from }
 }
 
-// Passes n items of the type t. Where they are arrays the first is refused at o, its item type.
-fn pass_items(s: &[u8], at: usize, n: u64, dialect: Dialect, t: u64, o: usize) -> Passed
-    requires { ⌜ t ≤ 12 ⌝ }
-    ensures { λ r. ⌜ asPassed r ≡ passed (run (times n (format.valueOf (format.array 0 dialect) dialect o t)) (now (s .entry)) at) ⌝ }
+// Passes n items of the type t, which are no arrays: so the contract holds whatever reads an array,
+// and wherever the type stands.
+fn pass_plain(s: &[u8], at: usize, n: u64, dialect: Dialect, t: u64) -> Passed
+    requires { ⌜ (t ≤ 12) × (t ≡ 9 → ⊥) ⌝ }
+    ensures { λ r. ⌜ ((arrays : ℕ → Reading ArraySpan) (o : ℕ) → asPassed r ≡ passed (run (times n (format.valueOf arrays dialect o t)) (now (s .entry)) at)) ⌝ }
 {
     if t == 8 {
         return pass_texts(s, at, n, dialect);
     }
-    if t == 9 {
-        if n == 0 {
-            return Passed::To { next: at };
-        }
-        return Passed::Refused { why: 9, place: o };
-    }
     pass_scalars(s, at, n, dialect, t)
 }
 
-// An array that is a value's own: its items are no arrays.
-pub fn read_array(s: &[u8], at: usize, dialect: Dialect) -> ArrayRead
-    ensures { λ r. ⌜ asArray r ≡ run (format.array format.depth dialect at) (now (s .entry)) at ⌝ }
+// A value of the type t, which is no array: again whatever reads an array, and wherever the type
+// stands.
+fn read_plain(s: &[u8], at: usize, dialect: Dialect, t: u64) -> ValueRead
+    requires { ⌜ (t ≤ 12) × (t ≡ 9 → ⊥) ⌝ }
+    ensures { λ r. ⌜ ((arrays : ℕ → Reading ArraySpan) (o : ℕ) → asValue r ≡ run (format.valueOf arrays dialect o t) (now (s .entry)) at) ⌝ }
 {
-    match read_type(s, at, dialect) {
-        Number::Refused { why, place } => ArrayRead::Refused { why, place },
-        Number::Value { value: t, next: p } => match read_version_size(s, p, dialect) {
-            Number::Refused { why, place } => ArrayRead::Refused { why, place },
-            Number::Value {
-                value: n,
-                next: first,
-            } => match pass_items(s, first, n, dialect, t, at) {
-                Passed::Refused { why, place } => ArrayRead::Refused { why, place },
-                Passed::To { next } => ArrayRead::Found {
-                    array: ArraySpan {
-                        item: t,
-                        count: n,
-                        kept: n,
-                        first,
-                    },
-                    next,
-                },
-            },
-        },
-    }
-}
-
-// A value of the type t, which stands at o.
-fn read_value_of(s: &[u8], at: usize, dialect: Dialect, t: u64, o: usize) -> ValueRead
-    requires { ⌜ t ≤ 12 ⌝ }
-    ensures { λ r. ⌜ asValue r ≡ run (format.valueOf (format.array format.depth dialect) dialect o t) (now (s .entry)) at ⌝ }
-{
-    if t == 9 {
-        return match read_array(s, at, dialect) {
-            ArrayRead::Refused { why, place } => ValueRead::Refused { why, place },
-            ArrayRead::Found { array, next } => ValueRead::Found {
-                value: Value::Array(array),
-                next,
-            },
-        };
-    }
     if t == 8 {
         return match read_string(s, at, dialect) {
             TextRead::Refused { why, place } => ValueRead::Refused { why, place },
@@ -343,13 +307,95 @@ fn read_value_of(s: &[u8], at: usize, dialect: Dialect, t: u64, o: usize) -> Val
     }
 }
 
-// A type, and a value of it.
+// An array whose own type stands at o, where depth arrays may still stand in one another, itself
+// counted. Where none may it is refused, at o: the item type of the array around it. The stack is
+// bounded by depth: whatever is read inside an array is read at one depth less.
+fn read_array(s: &[u8], at: usize, dialect: Dialect, o: usize, depth: u64) -> ArrayRead
+    ensures { λ r. ⌜ asArray r ≡ run (format.array depth dialect o) (now (s .entry)) at ⌝ }
+{
+    if depth == 0 {
+        return ArrayRead::Refused { why: 9, place: o };
+    }
+    match read_type(s, at, dialect) {
+        Number::Refused { why, place } => ArrayRead::Refused { why, place },
+        Number::Value { value: t, next: p } => match read_version_size(s, p, dialect) {
+            Number::Refused { why, place } => ArrayRead::Refused { why, place },
+            Number::Value {
+                value: n,
+                next: first,
+            } => match pass_items(s, first, n, dialect, t, at, depth - 1) {
+                Passed::Refused { why, place } => ArrayRead::Refused { why, place },
+                Passed::To { next } => ArrayRead::Found {
+                    array: ArraySpan {
+                        item: t,
+                        count: n,
+                        kept: n,
+                        first,
+                    },
+                    next,
+                },
+            },
+        },
+    }
+}
+
+// Passes n items of the type t, which stands at o, where depth arrays may still stand in one
+// another: every one is read. Items that are no arrays have loops of their own, which make no call
+// of the cycle.
+fn pass_items(s: &[u8], at: usize, n: u64, dialect: Dialect, t: u64, o: usize, depth: u64) -> Passed
+    requires { ⌜ t ≤ 12 ⌝ }
+    ensures { λ r. ⌜ asPassed r ≡ passed (run (times n (format.valueOf (format.array depth dialect) dialect o t)) (now (s .entry)) at) ⌝ }
+{
+    if t != 9 {
+        return pass_plain(s, at, n, dialect, t);
+    }
+    let mut from = at;
+    let mut i: u64 = 0;
+    while i < n {
+        match read_value_of(s, from, dialect, t, o, depth) {
+            ValueRead::Refused { why, place } => {
+                return Passed::Refused { why, place };
+            }
+            ValueRead::Found { value: _, next } => {
+                from = next;
+            }
+        }
+        i += 1;
+    }
+    Passed::To { next: from }
+}
+
+// A value of the type t, which stands at o, where depth arrays may still stand in one another.
+fn read_value_of(s: &[u8], at: usize, dialect: Dialect, t: u64, o: usize, depth: u64) -> ValueRead
+    requires { ⌜ t ≤ 12 ⌝ }
+    ensures { λ r. ⌜ asValue r ≡ run (format.valueOf (format.array depth dialect) dialect o t) (now (s .entry)) at ⌝ }
+{
+    if t != 9 {
+        return read_plain(s, at, dialect, t);
+    }
+    match read_array(s, at, dialect, o, depth) {
+        ArrayRead::Refused { why, place } => ValueRead::Refused { why, place },
+        ArrayRead::Found { array, next } => ValueRead::Found {
+            value: Value::Array(array),
+            next,
+        },
+    }
+}
+
+// A type, and a value of it: arrays stand in one another four deep, the outermost counted. What is
+// no array makes no call of the cycle. The test of the type stands here for that, as a literal: by
+// it the compiler finds that the cycle is entered for arrays only, and scalars and texts stay fast.
 pub fn read_value(s: &[u8], at: usize, dialect: Dialect) -> ValueRead
     ensures { λ r. ⌜ asValue r ≡ run (format.value dialect) (now (s .entry)) at ⌝ }
 {
     match read_type(s, at, dialect) {
         Number::Refused { why, place } => ValueRead::Refused { why, place },
-        Number::Value { value, next } => read_value_of(s, next, dialect, value, at),
+        Number::Value { value, next } => {
+            if value != 9 {
+                return read_plain(s, next, dialect, value);
+            }
+            read_value_of(s, next, dialect, value, at, 4)
+        }
     }
 }
 

@@ -3,7 +3,7 @@
 use Prim.Native.Nat.{ℕ, zero, suc, _+_, _-_, _≤_, _<_}
 use mathlib.Core.Path.{_≡_, refl, sym, ap, subst, _∙_}
 use mathlib.Core.Bool.{true}
-use mathlib.Core.List.{List, [], _∷_, _++_, map, append-assoc}
+use mathlib.Core.List.{List, [], _∷_, _++_, append-assoc}
 use native.Mathlib.Nat.{sub-zero}
 use native.Mathlib.Omega.{arith}
 use lib.ListN.{length, length-append, take, drop}
@@ -22,12 +22,6 @@ use Rattle.sheet.specs.Steps.{stepOf}
 -- what was written, by another name
 pub wrote-as : {l m old out : List ℕ} {n : ℕ} → l ≡ m → Wrote l old out n → Wrote m old out n
 wrote-as {old = old} {out} {n} e w = subst (λ x. Wrote x old out n) e w
-
--- rows of what a view shows
-pub rows-map : {A C : Type 0} (enc : C → List ℕ) (view : A → C) (l : List A) → bytesOfAll enc (map view l) ≡ bytesOfAll (λ a. enc (view a)) l
-unfolding bytesOfAll
-rows-map enc view [] = refl
-rows-map enc view (a ∷ l) = ap (λ r. enc (view a) ++ r) (rows-map enc view l)
 
 -- rows before others
 pub rows-append : {C : Type 0} (enc : C → List ℕ) (l m : List C) → bytesOfAll enc (l ++ m) ≡ bytesOfAll enc l ++ bytesOfAll enc m

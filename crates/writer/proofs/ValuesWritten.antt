@@ -1,48 +1,33 @@
--- What is written of an item or a value that is there: a scalar, a text, or the items of an array
--- in a row. Assumes nothing.
+-- What is written of an item or a value that is there and no array: a scalar or a text. Assumes
+-- nothing.
 use Prim.Native.Nat.{ℕ, suc, _+_, _-_, _≤_}
 use mathlib.Core.Path.{_≡_, refl, sym, ap, _∙_}
 use mathlib.Core.Bool.{Bool, true, false}
-use mathlib.Core.List.{List, _++_}
+use mathlib.Core.List.{List}
 use native.Mathlib.Omega.{arith}
 use lib.Dec.{eqb}
-use lib.ListN.{length, take, drop, length-append}
+use lib.ListN.{length, take, drop}
 use borrow.Author.Tests.{le-leb, eqb-true, eqb-false}
-use Rattle.reading.specs.Back.{got, bytesOfAll}
 use Rattle.fields.specs.Bytes.{bytesOf}
-use Rattle.reading.specs.Each.{times}
-use Rattle.reading.specs.Reading.{Reading, done, Answer, accepted, refused, run, _>>=_, _>>_, check, andThen, isAccepted}
-use Rattle.fields.specs.Value.{number}
+use Rattle.reading.specs.Reading.{Answer, accepted, refused, run, andThen, isAccepted}
 use Rattle.fields.proofs.Bytes.{length-bytesOf}
-use Rattle.reading.proofs.RunLaws.{run-bind, goes-on, stops}
-use Rattle.reading.proofs.SureLaws.{sure-each, whatever}
-use Rattle.values.specs.Contents.{Content, aScalar, aText, anArray, typeBytes, sizeBytes, textBytes, valueBytes, insideOf}
+use Rattle.reading.proofs.RunLaws.{not-there}
+use Rattle.values.specs.Contents.{Content, aScalar, aText, textBytes, valueBytes, insideOf}
 use Rattle.values.specs.Format.{sizeWidth, depth}
 use Rattle.scalars.specs.Scalars.{scalarWidth}
 use Rattle.values.specs.declared.Dialect.{Dialect}
 use Rattle.values.specs.declared.Span.{Span}
-use Rattle.plan.proofs.PartLengths.{type-length, size-length, text-length}
-use Rattle.sheet.specs.Format.{Text, textOf, text, scalar, itemType, array, item, value}
+use Rattle.plan.proofs.PartLengths.{text-length}
+use Rattle.sheet.specs.Format.{Text, textOf, text, scalar, item, value}
 use Rattle.sheet.specs.Sheet.{spanOf}
 use Rattle.sheet.specs.declared.Stepped.the-variants.{To}
 use Rattle.sheet.specs.declared.TextFound.the-variants.{Found, Bad}
 use Rattle.sheet.proofs.SheetItems.{has-none, item-text, item-none, value-text, value-none}
 use Rattle.sheet.proofs.PartsFound.{TextTold, scalar-told, sure-textOf, sure-text}
-use Rattle.sheet.proofs.BackFromAnswers.{span-no, span-yes, step-yes}
+use Rattle.sheet.proofs.BackFromAnswers.{span-no, span-yes, step-there}
 use Rattle.plan.specs.Steps.{contentRead}
 use Rattle.sheet.specs.Steps.{stepOf}
 use Rattle.writer.specs.Steps.{numberIn}
-
--- what ends somewhere is there
-pub step-there : {A : Type 0} (r : Answer A) {q : ℕ} → To q ≡ stepOf r → isAccepted r ≡ true
-step-there r e = ap isAccepted (sym (step-yes r e .is))
-
--- a refusal is not there
-pub not-there : {A : Type 0} {r : Answer A} {n p : ℕ} → r ≡ refused n p → isAccepted r ≡ true → ⊥
-not-there e h =
-    let f : false ≡ true = sym (ap isAccepted e) ∙ h in
-    let z : _≡_ {A = ℕ} 0 1 = cc in
-    omega arith
 
 -- Scalars.
 
@@ -88,11 +73,11 @@ word-bytes d k r b q i = ap (λ x. valueBytes (suc d) k (contentRead x)) (sym i)
 
 -- an item that is a text, at the span a
 pub record ItemText (k : Dialect) (t : ℕ) (s : List ℕ) (p : ℕ) (a : Span) (q : ℕ) : Type 0 where
-  pub bytes : textBytes k (insideOf s a) ≡ valueBytes depth k (contentRead (run (item depth t) s p))
-  pub size : length (valueBytes depth k (contentRead (run (item depth t) s p))) ≡ sizeWidth k + length (insideOf s a)
-  pub ends : To q ≡ stepOf (run (item depth t) s p)
+  pub bytes : textBytes k (insideOf s a) ≡ valueBytes 1 k (contentRead (run (item 1 t) s p))
+  pub size : length (valueBytes 1 k (contentRead (run (item 1 t) s p))) ≡ sizeWidth k + length (insideOf s a)
+  pub ends : To q ≡ stepOf (run (item 1 t) s p)
 
-module _ (k : Dialect) (t : ℕ) (s : List ℕ) (p : ℕ) (none : 0 ≡ scalarWidth t) (there : isAccepted (run (item depth t) s p) ≡ true) where
+module _ (k : Dialect) (t : ℕ) (s : List ℕ) (p : ℕ) (none : 0 ≡ scalarWidth t) (there : isAccepted (run (item 1 t) s p) ≡ true) where
   -- no other than a text is an item here
   item-typed : t ≡ 8
   item-typed = by (eqb t 8) refl
@@ -101,8 +86,8 @@ module _ (k : Dialect) (t : ℕ) (s : List ℕ) (p : ℕ) (none : 0 ≡ scalarWi
       by true e = eqb-true t 8 e
       by false e = absurd (not-there (item-none s p t (has-none t none) (eqb-false t 8 e)) there)
 
-  item-run : run (item depth t) s p ≡ andThen (run text s p) (λ a q. accepted (aText (a .bytes)) q)
-  item-run = rw item-typed (item-text s p)
+  item-run : run (item 1 t) s p ≡ andThen (run text s p) (λ a q. accepted (aText (a .bytes)) q)
+  item-run = rw item-typed (item-text s p 0)
 
   pub item-no : Bad ≡ spanOf (run text s p) → ⊥
   unfolding andThen
@@ -113,8 +98,8 @@ module _ (k : Dialect) (t : ℕ) (s : List ℕ) (p : ℕ) (none : 0 ≡ scalarWi
   text-there : (x : Text) (q : ℕ) → accepted x q ≡ run text s p → ItemText k t s p (x .span) q
   unfolding andThen
   text-there x q e =
-      let i : run (item depth t) s p ≡ accepted (aText (x .bytes)) q = item-run ∙ ap (λ y. andThen y (λ a q. accepted (aText (a .bytes)) q)) (sym e) in
-      let b = ap (textBytes k) (text-inside (sure-text s p .holds x q e)) ∙ word-bytes 0 k (run (item depth t) s p) (x .bytes) q i in
+      let i : run (item 1 t) s p ≡ accepted (aText (x .bytes)) q = item-run ∙ ap (λ y. andThen y (λ a q. accepted (aText (a .bytes)) q)) (sym e) in
+      let b = ap (textBytes k) (text-inside (sure-text s p .holds x q e)) ∙ word-bytes 0 k (run (item 1 t) s p) (x .bytes) q i in
       record { bytes = b; size = ap length (sym b) ∙ text-length k (insideOf s (x .span)); ends = ap stepOf (sym i) }
 
   pub item-yes : {a : Span} {q : ℕ} → Found a q ≡ spanOf (run text s p) → ItemText k t s p a q
@@ -142,7 +127,7 @@ module _ (k : Dialect) (e t : ℕ) (s : List ℕ) (p : ℕ) (none : 0 ≡ scalar
   value-made x i j =
       let h = sure-textOf s (e - p) p .holds x e i in
       let n : x .span .len ≡ e - p = omega (arith, h .ends) in
-      let b = ap (textBytes k) (rw (n, h .starts) at (h .bytes)) ∙ word-bytes 1 k (run (value e t) s p) (x .bytes) e j in
+      let b = ap (textBytes k) (rw (n, h .starts) at (h .bytes)) ∙ word-bytes depth k (run (value e t) s p) (x .bytes) e j in
       record { low = omega (arith, h .ends); high = h .there; bytes = b; size = ap length (sym b) ∙ text-length k (take (e - p) (drop p s)) }
 
   value-by : (x : Answer Text) → x ≡ run (textOf (e - p)) s p → run (value e t) s p ≡ andThen x (λ a q. accepted (aText (a .bytes)) q) → ValueText k e t s p
@@ -155,58 +140,3 @@ module _ (k : Dialect) (e t : ℕ) (s : List ℕ) (p : ℕ) (none : 0 ≡ scalar
 
   pub value-said : ValueText k e t s p
   value-said = value-by (run (textOf (e - p)) s p) refl value-run
-
--- Arrays.
-
--- an array of n items of the type t, which stand from q on
-pub record ArraySaid (k : Dialect) (s : List ℕ) (p t n q : ℕ) : Type 0 where
-  pub there : isAccepted (run (times n (item depth t)) s q) ≡ true
-  pub bytes : typeBytes k t ++ sizeBytes k n ++ bytesOfAll (valueBytes depth k) (got (run (times n (item depth t)) s q)) ≡ valueBytes (suc depth) k (contentRead (run (array depth (item depth)) s p))
-  pub size : length (valueBytes (suc depth) k (contentRead (run (array depth (item depth)) s p))) ≡ 4 + sizeWidth k + length (bytesOfAll (valueBytes depth k) (got (run (times n (item depth t)) s q)))
-
-list-run : {I : Type 0} (m : Reading (List I)) (t : ℕ) (s : List ℕ) (q : ℕ) → run (m >>= (λ l. done (anArray t l))) s q ≡ andThen (run m s q) (λ l o. accepted (anArray t l) o)
-unfolding run
-list-run m t s q = run-bind m (λ l. done (anArray t l)) s q
-
-checked : {A : Type 0} (b : Bool) (m : Reading A) (s : List ℕ) (q : ℕ) → isAccepted (run (check b 31 0 >> m) s q) ≡ true → run (check b 31 0 >> m) s q ≡ run m s q
-unfolding run _>>=_
-checked true m s q h = refl
-checked false m s q h = let z : _≡_ {A = ℕ} 0 1 = cc in absurd (omega arith)
-
-module _ (s : List ℕ) (p : ℕ) (there : isAccepted (run (array depth (item depth)) s p) ≡ true) where
-  pub no-type : {n o : ℕ} → refused n o ≡ run (number 1 true) s p → ⊥
-  unfolding array
-  no-type e = not-there (stops _ _ s p e) there
-
-  module _ {t o : ℕ} (type : accepted t o ≡ run (number 1 true) s p) where
-    typed : run (array depth (item depth)) s p ≡ run (number 4 true >>= (λ n. times n (item depth t) >>= (λ l. done (anArray t l)))) s o
-    unfolding array
-    typed = goes-on _ _ s p type ∙ checked (itemType 0 t) _ s o (rw (goes-on _ _ s p type) at there)
-
-    pub no-count : {n u : ℕ} → refused n u ≡ run (number 4 true) s o → ⊥
-    no-count e = not-there (typed ∙ stops _ _ s o e) there
-
-    module _ (k : Dialect) {n q : ℕ} (count : accepted n q ≡ run (number 4 true) s o) where
-      array-run : run (array depth (item depth)) s p ≡ andThen (run (times n (item depth t)) s q) (λ l u. accepted (anArray t l) u)
-      array-run = typed ∙ goes-on _ _ s o count ∙ list-run (times n (item depth t)) t s q
-
-      array-bytes : {l : List (Content depth)} {u : ℕ} → accepted l u ≡ run (times n (item depth t)) s q → run (array depth (item depth)) s p ≡ accepted (anArray t l) u
-          → typeBytes k t ++ sizeBytes k n ++ bytesOfAll (valueBytes depth k) (got (run (times n (item depth t)) s q)) ≡ valueBytes (suc depth) k (contentRead (run (array depth (item depth)) s p))
-      unfolding valueBytes
-      array-bytes {l} {u} e i =
-          let m : length l ≡ n = sure-each {P = λ z a. Unit {0}} _ _ (λ z o. whatever) n tt q .holds l u e .0 in
-          rw (i, ← e, m) refl
-
-      array-by : (x : Answer (List (Content depth))) → x ≡ run (times n (item depth t)) s q → run (array depth (item depth)) s p ≡ andThen x (λ l u. accepted (anArray t l) u) → ArraySaid k s p t n q
-      unfolding andThen
-      array-by (accepted l u) e i =
-          let b = array-bytes e i in
-          record {
-            there = ap isAccepted (sym e);
-            bytes = b;
-            size = ap length (sym b) ∙ rw (length-append, length-append, type-length k t, size-length k n);
-          }
-      array-by (refused m u) e i = absurd (not-there i there)
-
-      pub array-said : ArraySaid k s p t n q
-      array-said = array-by (run (times n (item depth t)) s q) refl array-run

@@ -111,12 +111,12 @@ fn write_scalar(
     }
 }
 
-// An item of an array, which is there.
+// An item of an array, which is there and no array.
 fn write_item(out: &mut [u8], s: &[u8], at: usize, t: u64, dialect: Dialect) -> Copied
-    requires { ⌜ isAccepted (run (format.item depth t) (now s) at) ≡ true ⌝ }
-    requires { ⌜ length (contents.valueBytes depth dialect (contentRead (run (format.item depth t) (now s) at))) ≤ length (now out) ⌝ }
-    ensures { λ r. ⌜ Wrote (contents.valueBytes depth dialect (contentRead (run (format.item depth t) (now (s .entry)) at))) (now (out .entry)) (now (out .exit)) (r .written) ⌝ }
-    ensures { λ r. ⌜ To (r .next) ≡ stepOf (run (format.item depth t) (now (s .entry)) at) ⌝ }
+    requires { ⌜ isAccepted (run (format.item 1 t) (now s) at) ≡ true ⌝ }
+    requires { ⌜ length (contents.valueBytes 1 dialect (contentRead (run (format.item 1 t) (now s) at))) ≤ length (now out) ⌝ }
+    ensures { λ r. ⌜ Wrote (contents.valueBytes 1 dialect (contentRead (run (format.item 1 t) (now (s .entry)) at))) (now (out .entry)) (now (out .exit)) (r .written) ⌝ }
+    ensures { λ r. ⌜ To (r .next) ≡ stepOf (run (format.item 1 t) (now (s .entry)) at) ⌝ }
 {
     match scalars::scalar_width(t) {
         ScalarWidth::Of { width } => {
@@ -139,11 +139,12 @@ fn write_item(out: &mut [u8], s: &[u8], at: usize, t: u64, dialect: Dialect) -> 
     }
 }
 
-// n items of the type t, which are all there.
-fn write_items(out: &mut [u8], s: &[u8], at: usize, n: u64, t: u64, dialect: Dialect) -> usize
-    requires { ⌜ isAccepted (run (times n (format.item depth t)) (now s) at) ≡ true ⌝ }
-    requires { ⌜ length (bytesOfAll (contents.valueBytes depth dialect) (got (run (times n (format.item depth t)) (now s) at))) ≤ length (now out) ⌝ }
-    ensures { λ r. ⌜ Wrote (bytesOfAll (contents.valueBytes depth dialect) (got (run (times n (format.item depth t)) (now (s .entry)) at))) (now (out .entry)) (now (out .exit)) r ⌝ }
+// n items of the type t, which are all there and no arrays.
+fn write_items(out: &mut [u8], s: &[u8], at: usize, n: u64, t: u64, dialect: Dialect) -> Copied
+    requires { ⌜ isAccepted (run (times n (format.item 1 t)) (now s) at) ≡ true ⌝ }
+    requires { ⌜ length (bytesOfAll (contents.valueBytes 1 dialect) (got (run (times n (format.item 1 t)) (now s) at))) ≤ length (now out) ⌝ }
+    ensures { λ r. ⌜ Wrote (bytesOfAll (contents.valueBytes 1 dialect) (got (run (times n (format.item 1 t)) (now (s .entry)) at))) (now (out .entry)) (now (out .exit)) (r .written) ⌝ }
+    ensures { λ r. ⌜ To (r .next) ≡ stepOf (run (times n (format.item 1 t)) (now (s .entry)) at) ⌝ }
 {
     let mut from = at;
     let mut done: usize = 0;
@@ -154,24 +155,67 @@ fn write_items(out: &mut [u8], s: &[u8], at: usize, n: u64, t: u64, dialect: Dia
         from = copied.next;
         i += 1;
     }
-    done
+    Copied {
+        written: done,
+        next: from,
+    }
 }
 
-// An array, which is there: its item type, its count and its items.
-fn write_array_payload(out: &mut [u8], s: &[u8], at: usize, dialect: Dialect) -> usize
+// An array, which is there and in which, itself counted, depth arrays may stand in one another: its
+// item type, its count and its items.
+fn write_array_payload(out: &mut [u8], s: &[u8], at: usize, dialect: Dialect, depth: u64) -> Copied
     requires { ⌜ isAccepted (run (format.array depth (format.item depth)) (now s) at) ≡ true ⌝ }
     requires { ⌜ length (contents.valueBytes (suc depth) dialect (contentRead (run (format.array depth (format.item depth)) (now s) at))) ≤ length (now out) ⌝ }
-    ensures { λ r. ⌜ Wrote (contents.valueBytes (suc depth) dialect (contentRead (run (format.array depth (format.item depth)) (now (s .entry)) at))) (now (out .entry)) (now (out .exit)) r ⌝ }
+    ensures { λ r. ⌜ Wrote (contents.valueBytes (suc depth) dialect (contentRead (run (format.array depth (format.item depth)) (now (s .entry)) at))) (now (out .entry)) (now (out .exit)) (r .written) ⌝ }
+    ensures { λ r. ⌜ To (r .next) ≡ stepOf (run (format.array depth (format.item depth)) (now (s .entry)) at) ⌝ }
 {
+    let none = Copied {
+        written: 0,
+        next: at,
+    };
     let Number::Value { value: t, next: p } = fields::number_at(s, at, Width::One, true) else {
-        return 0;
+        return none;
     };
     let Number::Value { value: n, next: q } = fields::number_at(s, p, Width::Four, true) else {
-        return 0;
+        return none;
     };
     let a = write_type(out, t, dialect);
     let b = a + write_size(&mut out[a..], n, dialect);
-    b + write_items(&mut out[b..], s, q, n, t, dialect)
+    if t == 9 {
+        let arrays = write_arrays(&mut out[b..], s, q, n, dialect, depth - 1);
+        return Copied {
+            written: b + arrays.written,
+            next: arrays.next,
+        };
+    }
+    let items = write_items(&mut out[b..], s, q, n, t, dialect);
+    Copied {
+        written: b + items.written,
+        next: items.next,
+    }
+}
+
+// n arrays, which are all there. This and `write_array_payload` call each other at most depth times,
+// so that depth bounds their stack.
+fn write_arrays(out: &mut [u8], s: &[u8], at: usize, n: u64, dialect: Dialect, depth: u64) -> Copied
+    requires { ⌜ isAccepted (run (times n (format.array depth (format.item depth))) (now s) at) ≡ true ⌝ }
+    requires { ⌜ length (bytesOfAll (contents.valueBytes (suc depth) dialect) (got (run (times n (format.array depth (format.item depth))) (now s) at))) ≤ length (now out) ⌝ }
+    ensures { λ r. ⌜ Wrote (bytesOfAll (contents.valueBytes (suc depth) dialect) (got (run (times n (format.array depth (format.item depth))) (now (s .entry)) at))) (now (out .entry)) (now (out .exit)) (r .written) ⌝ }
+    ensures { λ r. ⌜ To (r .next) ≡ stepOf (run (times n (format.array depth (format.item depth))) (now (s .entry)) at) ⌝ }
+{
+    let mut from = at;
+    let mut done: usize = 0;
+    let mut i: u64 = 0;
+    while i < n {
+        let copied = write_array_payload(&mut out[done..], s, from, dialect, depth);
+        done += copied.written;
+        from = copied.next;
+        i += 1;
+    }
+    Copied {
+        written: done,
+        next: from,
+    }
 }
 
 // The value of an entry that ends at end, without its type.
@@ -191,7 +235,8 @@ fn write_metadata_value(
         ScalarWidth::Of { width } => write_scalar(out, s, at, form, width, dialect),
         ScalarWidth::None => {
             if form == 9 {
-                return write_array_payload(out, s, at, dialect);
+                let array = write_array_payload(out, s, at, dialect, 4);
+                return array.written;
             }
             write_string(out, &s[at..end], dialect)
         }

@@ -1,8 +1,9 @@
-//! Files for tests, made field by field, and what tests ask of refusals.
+//! Files for tests, made field by field, arrays to hold against what is read, and what tests ask of
+//! refusals.
 #![allow(dead_code)]
 
 use strutpebble::ByteOrder::{self, Big, BigMagic, Little};
-use strutpebble::{Place, Refusal};
+use strutpebble::{Array, Place, Refusal, Type, Value};
 
 /// Every version and byte order that there is.
 pub const DIALECTS: [(u32, ByteOrder); 7] =
@@ -31,6 +32,7 @@ pub const BLOCKS: [(u64, u64, u64); 32] = [
 /// The kinds whose data takes none. They are read and never written.
 pub const NO_BYTES: [u64; 6] = [31, 32, 33, 36, 37, 38];
 
+#[derive(Clone)]
 pub struct Made {
     pub bytes: Vec<u8>,
     version: u32,
@@ -75,7 +77,12 @@ impl Made {
 
     /// A key and an array's types and count; the items follow.
     pub fn array(&mut self, key: &str, item_type: u64, count: u64) -> &mut Made {
-        self.key(key, 9).number(4, item_type).size(count)
+        self.key(key, 9).inner(item_type, count)
+    }
+
+    /// The item type and the count of an array inside another; the items follow.
+    pub fn inner(&mut self, item_type: u64, count: u64) -> &mut Made {
+        self.number(4, item_type).size(count)
     }
 
     pub fn tensor(&mut self, name: &str, lengths: &[u64], kind: u64, offset: u64) -> &mut Made {
@@ -84,6 +91,40 @@ impl Made {
             self.number(8, *length);
         }
         self.number(4, kind).number(8, offset)
+    }
+}
+
+/// An array of these values, which are never freed.
+pub fn list(item_type: Type, items: Vec<Value<'static>>) -> Value<'static> {
+    Value::Array(Array::new(item_type, items.leak()))
+}
+
+pub fn lists(items: Vec<Value<'static>>) -> Value<'static> {
+    list(Type::Array, items)
+}
+
+pub fn bytes(items: &[u8]) -> Value<'static> {
+    list(Type::U8, items.iter().map(|item| Value::U8(*item)).collect())
+}
+
+pub fn strings(items: &[&'static str]) -> Value<'static> {
+    list(Type::String, items.iter().map(|item| Value::String(item.as_bytes())).collect())
+}
+
+/// A value in words, as Rust writes it, with all items of arrays.
+pub fn shown(value: Value) -> String {
+    match value {
+        Value::Array(array) => {
+            let items: Vec<_> = array.iter_all().map(shown).collect();
+            format!("[{}]", items.join(", "))
+        }
+        Value::String(text) => format!("{:?}", String::from_utf8_lossy(text)),
+        Value::Bool(yes) => yes.to_string(),
+        Value::F32(_) | Value::F64(_) => format!("{:?}", value.as_f64().unwrap()),
+        integer => match integer.as_u64() {
+            Some(number) => number.to_string(),
+            None => integer.as_i64().unwrap().to_string(),
+        },
     }
 }
 

@@ -37,13 +37,13 @@ returns-2 : tie.Need-returns-2
 unfolding andThen
 returns-2 c =
     let r = ap asNumber (sym (c .enum-told .given .1)) ∙ c .before .before .scalar-at .ensures in
-    rw (item-scalar _ _ _ (scalars (c .before .before .before .before)), ← r) refl
+    rw (item-scalar _ _ _ _ (scalars (c .before .before .before .before)), ← r) refl
 
 returns-3 : tie.Need-returns-3
 unfolding andThen
 returns-3 c =
     let r = ap asNumber (sym (c .before .next .given .1)) ∙ c .before .before .before .scalar-at .ensures in
-    rw (item-scalar _ _ _ (scalars (c .before .before .before .before .before)), ← r) refl
+    rw (item-scalar _ _ _ _ (scalars (c .before .before .before .before .before)), ← r) refl
 
 returns-4 : tie.Need-returns-4
 unfolding andThen

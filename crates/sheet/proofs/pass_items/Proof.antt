@@ -9,7 +9,6 @@ use denote.Ref.{now}
 use Rattle.reading.specs.Reading.{run}
 use Rattle.reading.specs.Each.{times}
 use Rattle.reading.proofs.Repetition.{times-ends}
-use Rattle.values.specs.Format.{depth}
 use Rattle.sheet.specs.Format.{item}
 use Rattle.sheet.proofs.BackFromAnswers.{steps-on, steps-not}
 use Rattle.sheet.proofs.pass_items.Statement.{statement}
@@ -17,7 +16,7 @@ use Rattle.sheet.proofs.pass_items.Tie as tie
 use Rattle.sheet.specs.Steps.{stepOf}
 
 abbrev Inv-loop : tie.InvT-loop
-Inv-loop s at n t from₀ i₀ from i = (i ≤ n) × (stepOf (run (times n (item depth t)) s at) ≡ stepOf (run (times (n - i) (item depth t)) s from))
+Inv-loop s at n t from₀ i₀ from i = (i ≤ n) × (stepOf (run (times n (item 1 t)) s at) ≡ stepOf (run (times (n - i) (item 1 t)) s from))
 
 abbrev μ-loop : tie.MeasureT-loop
 μ-loop s at n t from₀ i₀ from i = n - i
@@ -33,20 +32,20 @@ returns c =
     let u = c .before .before in
     let l = u .before .before .loop in
     let a = u .before .before .before .before .args in
-    sym (l .inv .1 ∙ steps-not (item depth (a .t)) (now (a .s)) (l .from) (a .n) (l .i) (omega arith) (sym (c .enum-told .given .1) ∙ u .pass-item .ensures))
+    sym (l .inv .1 ∙ steps-not (item 1 (a .t)) (now (a .s)) (l .from) (a .n) (l .i) (omega arith) (sym (c .enum-told .given .1) ∙ u .pass-item .ensures))
 
 loop-again : tie.Need-loop-again Inv-loop μ-loop
 loop-again c =
     let u = c .before .before .before in
     let l = u .before .before .loop in
     let a = u .before .before .before .before .args in
-    (omega arith, l .inv .1 ∙ steps-on (item depth (a .t)) (now (a .s)) (l .from) (a .n) (l .i) (omega arith) (sym (c .before .next .given .1) ∙ u .pass-item .ensures))
+    (omega arith, l .inv .1 ∙ steps-on (item 1 (a .t)) (now (a .s)) (l .from) (a .n) (l .i) (omega arith) (sym (c .before .next .given .1) ∙ u .pass-item .ensures))
 
 returns-2 : tie.Need-returns-2 Inv-loop μ-loop
 returns-2 c =
     let l = c .before .loop in
     let a = c .before .before .before .args in
-    sym (l .inv .1 ∙ ap stepOf (times-ends (item depth (a .t)) (now (a .s)) (l .from) (a .n) (l .i) (omega arith)))
+    sym (l .inv .1 ∙ ap stepOf (times-ends (item 1 (a .t)) (now (a .s)) (l .from) (a .n) (l .i) (omega arith)))
 
 pub pass-items-spec : {M : Type 1} → statement M
 pass-items-spec =

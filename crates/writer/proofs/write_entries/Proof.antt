@@ -15,7 +15,8 @@ use Rattle.sheet.specs.Format.{metadata}
 use Rattle.sheet.proofs.BackFromAnswers.{next-there}
 use Rattle.plan.proofs.PartLengths.{entry-size}
 use Rattle.writer.proofs.Entries.{EntryThere, entry-there}
-use Rattle.writer.proofs.RowsWritten.{wrote-as, rows-map, Left, left-start, left-room, left-turn, left-end}
+use Rattle.reading.proofs.Repetition.{rows-map}
+use Rattle.writer.proofs.RowsWritten.{wrote-as, Left, left-start, left-room, left-turn, left-end}
 use Rattle.writer.proofs.write_entries.Statement.{statement}
 use Rattle.writer.proofs.write_entries.Tie as tie
 

@@ -9,7 +9,6 @@ use Rattle.reading.specs.Reading.{run}
 use Rattle.fields.specs.Value.{widthOf}
 use Rattle.scalars.specs.Scalars.{asWidth, scalarWidth}
 use Rattle.values.specs.Contents.{textBytes}
-use Rattle.values.specs.Format.{depth}
 use Rattle.sheet.specs.Format.{item}
 use Rattle.sheet.specs.declared.Stepped.the-variants.{To}
 use Rattle.sheet.proofs.SheetItems.{has-width, item-scalar}
@@ -24,12 +23,12 @@ wide c = ap asWidth (sym (c .width .given .1)) ∙ c .before .before .scalar-wid
 
 scalars : (c : tie.After-width) →
     let a = c .before .before .before .before .before .args in
-    ScalarSaid 0 (a .dialect) (a .t) (now (a .s)) (a .at) (run (item depth (a .t)) (now (a .s)) (a .at))
+    ScalarSaid 0 (a .dialect) (a .t) (now (a .s)) (a .at) (run (item 1 (a .t)) (now (a .s)) (a .at))
 scalars c =
     let u = c .before .before .before .before .before in
     let a = u .args in
-    scalar-said 0 (a .dialect) (a .t) (now (a .s)) (a .at) (run (item depth (a .t)) (now (a .s)) (a .at))
-    (item-scalar (now (a .s)) (a .at) (a .t) (has-width (c .width .given .0 .0) (a .t) (wide c)))
+    scalar-said 0 (a .dialect) (a .t) (now (a .s)) (a .at) (run (item 1 (a .t)) (now (a .s)) (a .at))
+    (item-scalar (now (a .s)) (a .at) 0 (a .t) (has-width (c .width .given .0 .0) (a .t) (wide c)))
     (u .pre .0)
 
 -- that it has none, and the text that is there

@@ -7,7 +7,6 @@ use lib.ListN.{length, length-take, length-drop}
 use denote.Ref.{now}
 use Rattle.reading.specs.Reading.{run, isAccepted}
 use Rattle.values.specs.Contents.{valueBytes}
-use Rattle.values.specs.Format.{depth}
 use Rattle.sheet.specs.Format.{item}
 use Rattle.sheet.proofs.BackFromAnswers.{step-yes}
 use Rattle.writer.proofs.RowsWritten.{Next, Left, left-start, left-next, left-turn, left-end}
@@ -16,7 +15,7 @@ use Rattle.writer.proofs.write_items.Tie as tie
 use Rattle.plan.specs.Steps.{contentRead}
 
 abbrev Inv-loop : tie.InvT-loop
-Inv-loop out₀ s at n t dialect from₀ done₀ i₀ out from done i = Left (item depth t) (valueBytes depth dialect) s at n out₀ out from done i
+Inv-loop out₀ s at n t dialect from₀ done₀ i₀ out from done i = Left (item 1 t) (valueBytes 1 dialect) s at n out₀ out from done i
 
 abbrev μ-loop : tie.MeasureT-loop
 μ-loop out₀ s at n t dialect from₀ done₀ i₀ out from done i = n - i
@@ -28,17 +27,17 @@ loop-holds c = left-start _ _ _ _ _ _ (c .before .before .pre .0)
 next : (c : tie.In-loop Inv-loop μ-loop) →
     let l = c .before .loop in
     let a = c .before .before .before .before .args in
-    Next (item depth (a .t)) (valueBytes depth (a .dialect)) (now (a .s)) (l .from) (l .done) (l .out)
+    Next (item 1 (a .t)) (valueBytes 1 (a .dialect)) (now (a .s)) (l .from) (l .done) (l .out)
 next c = left-next _ _ _ _ _ (c .before .loop .inv) (c .loop-test .taken) (c .before .before .before .before .pre .1)
 
 room : (c : tie.In-loop Inv-loop μ-loop) →
     let l = c .before .loop in
     let a = c .before .before .before .before .args in
-    l .done + length (valueBytes depth (a .dialect) (contentRead (run (item depth (a .t)) (now (a .s)) (l .from)))) ≤ length (l .out)
+    l .done + length (valueBytes 1 (a .dialect) (contentRead (run (item 1 (a .t)) (now (a .s)) (l .from)))) ≤ length (l .out)
 room c =
     let l = c .before .loop in
     let a = c .before .before .before .before .args in
-    subst (λ r. l .done + length (valueBytes depth (a .dialect) (contentRead r)) ≤ length (l .out)) (next c .is) (next c .room)
+    subst (λ r. l .done + length (valueBytes 1 (a .dialect) (contentRead r)) ≤ length (l .out)) (next c .is) (next c .room)
 
 sub-write-item : tie.Need-sub-write-item Inv-loop μ-loop
 sub-write-item c = omega (arith, room c)
@@ -62,14 +61,14 @@ loop-again c =
     let t = c .before .before .before in
     let l = t .before .before .before .loop in
     let a = t .before .before .before .before .before .before .args in
-    let y = step-yes (run (item depth (a .t)) (now (a .s)) (l .from)) (t .write-item .ensures .1) in
-    left-turn _ _ _ _ _ (l .inv) (t .before .before .loop-test .taken) (y .is) (ap (λ r. valueBytes depth (a .dialect) (contentRead r)) (sym (y .is))) (t .write-item .ensures .0) (t .write-item .kept .0)
+    let y = step-yes (run (item 1 (a .t)) (now (a .s)) (l .from)) (t .write-item .ensures .1) in
+    left-turn _ _ _ _ _ (l .inv) (t .before .before .loop-test .taken) (y .is) (ap (λ r. valueBytes 1 (a .dialect) (contentRead r)) (sym (y .is))) (t .write-item .ensures .0) (t .write-item .kept .0)
 
 same-length : tie.Need-same-length Inv-loop μ-loop
 same-length c = c .before .loop .inv .part .same
 
 returns : tie.Need-returns Inv-loop μ-loop
-returns c = left-end _ _ _ _ _ (c .before .loop .inv) (c .loop-test .left) .0
+returns c = left-end _ _ _ _ _ (c .before .loop .inv) (c .loop-test .left)
 
 pub write-items-spec : {M : Type 1} → statement M
 write-items-spec =

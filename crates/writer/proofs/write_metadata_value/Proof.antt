@@ -13,8 +13,9 @@ use Rattle.values.specs.Contents.{valueBytes}
 use Rattle.values.specs.Format.{depth}
 use Rattle.sheet.specs.Format.{array, item, value}
 use Rattle.sheet.proofs.SheetItems.{has-width, value-scalar, value-array}
+use Rattle.sheet.proofs.BackFromAnswers.{step-there}
 use Rattle.writer.proofs.RowsWritten.{wrote-as}
-use Rattle.writer.proofs.ValuesWritten.{step-there, ScalarSaid, scalar-said, ValueText, value-said}
+use Rattle.writer.proofs.ValuesWritten.{ScalarSaid, scalar-said, ValueText, value-said}
 use Rattle.writer.proofs.write_metadata_value.Statement.{statement}
 use Rattle.writer.proofs.write_metadata_value.Tie as tie
 use Rattle.plan.specs.Steps.{contentRead}
@@ -25,12 +26,12 @@ wide c = ap asWidth (sym (c .width .given .1)) ∙ c .before .before .scalar-wid
 
 scalars : (c : tie.After-width) →
     let a = c .before .before .before .before .before .args in
-    ScalarSaid 1 (a .dialect) (a .form) (now (a .s)) (a .at) (run (value (a .end) (a .form)) (now (a .s)) (a .at))
+    ScalarSaid depth (a .dialect) (a .form) (now (a .s)) (a .at) (run (value (a .end) (a .form)) (now (a .s)) (a .at))
 scalars c =
     let u = c .before .before .before .before .before in
     let a = u .args in
     let r = run (value (a .end) (a .form)) (now (a .s)) (a .at) in
-    scalar-said 1 (a .dialect) (a .form) (now (a .s)) (a .at) r
+    scalar-said depth (a .dialect) (a .form) (now (a .s)) (a .at) r
     (value-scalar (now (a .s)) (a .at) (a .end) (a .form) (has-width (c .width .given .0 .0) (a .form) (wide c)))
     (step-there r (u .pre .0))
 
@@ -69,7 +70,7 @@ write-array-payload-requires c κs =
 returns : tie.Need-returns
 returns c =
     let a = c .before .before .before .before .before .before .before .before .before .before .args in
-    wrote-as (ap (λ r. valueBytes (suc depth) (a .dialect) (contentRead r)) (sym (arrays (c .before .before .before .before)))) (c .before .before .write-array-payload .ensures)
+    wrote-as (ap (λ r. valueBytes (suc depth) (a .dialect) (contentRead r)) (sym (arrays (c .before .before .before .before)))) (c .before .before .write-array-payload .ensures .0)
 
 sub-write-string : tie.Need-sub-write-string
 sub-write-string c = texts (c .before) .low
