@@ -2,8 +2,8 @@
  *
  * Link libstrutpebble.a (rt staticlib strutpebble, or what ./install leaves); x86-64. It takes
  * memcpy and memset from the C library and nothing else, allocates nothing, keeps nothing between
- * calls, and needs some 5.5 KiB of stack, however deep arrays stand in one another. This header wants
- * C11 or C++11.
+ * calls, and needs some 5.5 KiB of stack, however deep arrays stand in one another. This header
+ * wants C11 or C++11.
  *
  * docs/REFUSALS.md has each refusal with its place and what to do about it. */
 #ifndef STRUTPEBBLE_H
@@ -280,9 +280,9 @@ uint64_t sp_check_ranges(const sp_tensor *tensors, size_t tensor_rows, uint64_t 
  * the byte of a type and a value: a scalar in its own width, a bool as 0 or 1; a string as the
  * rest; an array as the byte of an item type, a count (4 bytes) and the items, strings each behind
  * a length (4 bytes), and arrays likewise. Four arrays may stand in one another: the item type of
- * the fourth is no array's, even where it has no items. A tensor is the byte 2, the name's length (4
- * bytes), the name, its kind (4 bytes), its dimension count (1 byte) and its lengths (8 bytes each).
- * Metadata comes first, with keys strictly ascending by bytes.
+ * the fourth is no array's, even where it has no items. A tensor is the byte 2, the name's length
+ * (4 bytes), the name, its kind (4 bytes), its dimension count (1 byte) and its lengths (8 bytes
+ * each). Metadata comes first, with keys strictly ascending by bytes.
  *
  * version is 1, 2 or 3. byte_order is SP_LITTLE_ENDIAN, SP_BIG_ENDIAN, which goes with version 3
  * alone, or SP_BIG_ENDIAN_MAGIC; any other number means SP_BIG_ENDIAN. Where alignment is not 32 and

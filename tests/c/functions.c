@@ -279,7 +279,7 @@ static void big_endian_is_version_3(void) {
     }
 }
 
-/* What is printed of an array: where it stands, how its file writes numbers, and the text so far. */
+/* What is printed of an array: its place, how its file writes numbers, and the text so far. */
 typedef struct printing {
     const uint8_t *file;
     uint64_t at;
@@ -357,7 +357,8 @@ static void lists_of_lists(void) {
         }
 }
 
-/* An item type of arrays is bad in the fourth array of a sheet, and without items good before it. */
+/* In a sheet, the item type of arrays is bad in the fourth array; before it, it is good even where
+ * there are no items. */
 static void arrays_are_four_deep(void) {
     uint8_t made[] = {1, 0, 0, 0, 27, 1, 0, 0, 0, 1, 'a', 9, 9, 0, 0, 0, 1,
                       9, 0, 0, 0, 1,  9, 0, 0, 0, 1, 9,   0, 0, 0, 0};
