@@ -41,7 +41,7 @@ use Rattle.plan.specs.declared.LaidOut.the-variants.{Fits, Refused as No
 use Rattle.plan.specs.Header.{ownAlignmentWith, entryIn, pieceOf, contentAt, laidWith, laidFrom}
 use Rattle.plan.specs.Plan.{laidOf}
 use Rattle.plan.specs.Steps.{takenFrom, contentRead}
-use Rattle.plan.proofs.Rooms.{taken-none, taken-twice}
+use Rattle.plan.proofs.Rooms.{room-turn, room-end}
 use Rattle.plan.proofs.PartLengths.{entry-length, stored-length, tensor-eights, rows-none, rows-more}
 use Rattle.plan.proofs.ValueLengths.{heard-one}
 
@@ -95,9 +95,8 @@ module _ (s : List ℕ) (at n i : ℕ) (below : i < n) (all : isAccepted (run (t
         entry-length k (line .content)
         ∙ ap (λ y. sizeWidth k + 4 + y + length (valueBytes (suc depth) k (line .content .value))) key-length
         ∙ ap (λ y. sizeWidth k + 4 + x .key .len + length (valueBytes (suc depth) k y)) (sym (heard-one entry-value)) in
-        ap (λ l. takenFrom r (length (bytesOfAll (entryBytes k) (map entryIn l)))) left
-        ∙ ap (takenFrom r) (rows-more (entryBytes k) (line .content) _ ∙ ap (λ y. y + entriesLength k (n - (i + 1)) s q) e)
-        ∙ sym (taken-twice r _ _)
+        let size : List SheetEntry → ℕ = λ l. length (bytesOfAll (entryBytes k) (map entryIn l)) in
+        room-turn size metadata s at n i r below all read _ (λ l. rows-more (entryBytes k) (line .content) (map entryIn l) ∙ ap (λ y. y + size l) e)
 
     pub entry-said : (z : OwnAlignment) → fold ownAlignmentWith z (got (run (times (n - i) metadata) s at))
         ≡ fold ownAlignmentWith (if isWord alignmentKey (insideOf s (x .key)) then Own (contentAlignment (contentRead (run (value q (x .form)) s (x .value)))) else z) (got (run (times (n - (i + 1)) metadata) s q))
@@ -174,9 +173,8 @@ module _ (s : List ℕ) (at n i : ℕ) (below : i < n) (all : isAccepted (run (t
     pub tensor-taken : (k : Dialect) (r : Room) → takenFrom r (tensorsLength k (n - i) s at)
         ≡ takenFrom (takenFrom r (sizeWidth k + 16 + 8 * x .shape .dimensions + x .name .len)) (tensorsLength k (n - (i + 1)) s q)
     tensor-taken k r =
-        ap (λ l. takenFrom r (length (bytesOfAll (tensorBytes k) (laidFrom 0 nothingLaid l)))) ones-left
-        ∙ ap (takenFrom r) (rows-more (tensorBytes k) (contentAt one 0) _ ∙ rw (one-length k, any-offsets k 0 0 (laidWith 0 nothingLaid one) nothingLaid (got (run (times (n - (i + 1)) tensor) s q))))
-        ∙ sym (taken-twice r _ _)
+        let size : List SheetTensor → ℕ = λ l. length (bytesOfAll (tensorBytes k) (laidFrom 0 nothingLaid l)) in
+        room-turn size tensor s at n i r below all one-read _ (λ l. rows-more (tensorBytes k) (contentAt one 0) _ ∙ rw (one-length k, any-offsets k 0 0 (laidWith 0 nothingLaid one) nothingLaid l))
 
     module _ (a : ℕ) (laid : Laid) where
       pub laid-stops : {w : ℕ} → placeOf a laid (lengths (x .shape)) (x .kind) ≡ Refused w → laidOf (layoutFrom a laid i (map pieceOf (got (run (times (n - i) tensor) s at)))) ≡ NotLaid w i
@@ -197,11 +195,10 @@ laid-ends a laid s at n i h = rw (got-ends tensor s at n i h, layout-end a laid 
 -- where nothing is left, nothing more is taken
 module _ (k : Dialect) (r : Room) (s : List ℕ) (at n i : ℕ) (done : n ≤ i) where
   pub entries-ends : takenFrom r (entriesLength k (n - i) s at) ≡ r
-  entries-ends = ap (λ l. takenFrom r (length (bytesOfAll (entryBytes k) (map entryIn l)))) (got-ends metadata s at n i done) ∙ ap (takenFrom r) (rows-none (entryBytes k)) ∙ taken-none r
+  entries-ends = room-end (λ l. length (bytesOfAll (entryBytes k) (map entryIn l))) metadata s at n i r (rows-none (entryBytes k)) done
 
   pub tensors-ends : takenFrom r (tensorsLength k (n - i) s at) ≡ r
-  tensors-ends =
-      ap (λ l. takenFrom r (length (bytesOfAll (tensorBytes k) (laidFrom 0 nothingLaid l)))) (got-ends tensor s at n i done) ∙ ap (takenFrom r) (rows-none (tensorBytes k)) ∙ taken-none r
+  tensors-ends = room-end (λ l. length (bytesOfAll (tensorBytes k) (laidFrom 0 nothingLaid l))) tensor s at n i r (rows-none (tensorBytes k)) done
 
 -- whatever the offsets are
 pub tensors-told : (k : Dialect) (a : ℕ) (laid : Laid) (s : List ℕ) (at n : ℕ) → length (bytesOfAll (tensorBytes k) (laidFrom a laid (got (run (times n tensor) s at)))) ≡ tensorsLength k n s at

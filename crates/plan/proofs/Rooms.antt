@@ -1,13 +1,13 @@
--- What is left of a room: one part taken after another is both at once. Assumes nothing.
+-- What is left of a room: one part taken after another is both at once, and so are the parts that a
+-- loop takes. Assumes nothing.
 use Prim.Native.Nat.{ℕ, _+_, _-_, _≤_, _<_}
 use mathlib.Core.Path.{_≡_, refl, sym, ap, _∙_}
 use mathlib.Core.Bool.{Bool, true, false}
-use mathlib.Core.List.{List}
+use mathlib.Core.List.{List, [], _∷_}
 use native.Mathlib.Omega.{arith}
 use lib.Dec.{leb}
-use lib.ListN.{length}
 use borrow.Author.Tests.{le-leb, lt-leb, leb-true, leb-false}
-use Rattle.reading.specs.Back.{got, bytesOfAll}
+use Rattle.reading.specs.Back.{got}
 use Rattle.reading.specs.Choice.{if_then_else_}
 use Rattle.reading.specs.Each.{times}
 use Rattle.reading.specs.Reading.{Reading, accepted, run, isAccepted}
@@ -15,7 +15,6 @@ use Rattle.reading.proofs.Repetition.{times-got, times-ends}
 use Rattle.plan.specs.declared.Room.{Room}
 use Rattle.plan.specs.declared.Room.the-variants.{Left, Over}
 use Rattle.plan.specs.Steps.{takenFrom}
-use Rattle.plan.proofs.PartLengths.{rows-more, rows-none}
 
 -- what fits is left, and what does not leaves nothing
 pub taken-fits : {r n : ℕ} → n ≤ r → takenFrom (Left r) n ≡ Left (r - n)
@@ -60,15 +59,14 @@ taken-twice Over a b = refl
 pub taken-thrice : (r : Room) (a b c : ℕ) → takenFrom (takenFrom (takenFrom r a) b) c ≡ takenFrom r (a + b + c)
 taken-thrice r a b c = taken-twice (takenFrom r a) b c ∙ taken-twice r a (b + c) ∙ ap (takenFrom r) (omega arith)
 
--- a room from which records that are all there are taken one after the other: one of them and those
--- after it, or none
-module _ {A : Type 0} (enc : A → List ℕ) (m : Reading A) (s : List ℕ) (from n i : ℕ) (left : Room) where
-  pub room-turn : i < n → isAccepted (run (times (n - i) m) s from) ≡ true → {a : A} {q : ℕ} → accepted a q ≡ run m s from
-      → takenFrom left (length (bytesOfAll enc (got (run (times (n - i) m) s from)))) ≡ takenFrom (takenFrom left (length (enc a))) (length (bytesOfAll enc (got (run (times (n - (i + 1)) m) s q))))
-  room-turn below all {a} {q} e =
+-- a loop that takes records, which are all there, one after the other, where size says how long a
+-- list of them is: the next one and those after it, or none
+module _ {A : Type 0} (size : List A → ℕ) (m : Reading A) (s : List ℕ) (from n i : ℕ) (left : Room) where
+  pub room-turn : i < n → isAccepted (run (times (n - i) m) s from) ≡ true → {a : A} {q : ℕ} → accepted a q ≡ run m s from → (part : ℕ) → ((l : List A) → size (a ∷ l) ≡ part + size l)
+      → takenFrom left (size (got (run (times (n - i) m) s from))) ≡ takenFrom (takenFrom left part) (size (got (run (times (n - (i + 1)) m) s q)))
+  room-turn below all {q = q} e part more =
       let rest = got (run (times (n - (i + 1)) m) s q) in
-      ap (λ l. takenFrom left (length (bytesOfAll enc l))) (times-got m s from n i below e all)
-      ∙ ap (takenFrom left) (rows-more enc a rest) ∙ sym (taken-twice left (length (enc a)) (length (bytesOfAll enc rest)))
+      ap (λ l. takenFrom left (size l)) (times-got m s from n i below e all) ∙ ap (takenFrom left) (more rest) ∙ sym (taken-twice left part (size rest))
 
-  pub room-end : n ≤ i → takenFrom left (length (bytesOfAll enc (got (run (times (n - i) m) s from)))) ≡ left
-  room-end past = ap (λ r. takenFrom left (length (bytesOfAll enc (got r)))) (times-ends m s from n i past) ∙ ap (takenFrom left) (rows-none enc) ∙ taken-none left
+  pub room-end : size [] ≡ 0 → n ≤ i → takenFrom left (size (got (run (times (n - i) m) s from))) ≡ left
+  room-end none past = ap (λ r. takenFrom left (size (got r))) (times-ends m s from n i past) ∙ ap (takenFrom left) none ∙ taken-none left

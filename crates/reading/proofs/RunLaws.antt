@@ -10,7 +10,7 @@ use lib.Seq.{take-take, take-append-le, drop-append-le}
 use lib.Dec.{T, leb}
 use borrow.Author.Tests.{leb-true, le-leb, ne-eqb}
 use Rattle.reading.specs.Choice.{if_then_else_}
-use Rattle.reading.specs.Reading.{Reading, done, refuse, place, field, known, Answer, accepted, refused, run, _>>=_, next, skip, andThen, seen, final, isAccepted}
+use Rattle.reading.specs.Reading.{Reading, done, refuse, place, field, known, Answer, accepted, refused, run, _>>=_, _>>_, check, next, skip, andThen, seen, final, isAccepted}
 
 -- a field that is wholly looked at, and one that nothing looks at
 pub run-next : {A : Type 0} (w : ℕ) (k : List ℕ → Reading A) (s : List ℕ) (at : ℕ) → run (next w k) s at ≡ (if leb (at + w) (length s) then run (k (take w (drop at s))) s (at + w) else refused 1 at)
@@ -88,6 +88,15 @@ goes-on m f s at e = run-bind m f s at ∙ ap (λ r. andThen r (λ a p. run (f a
 pub stops : {A B : Type 0} (m : Reading A) (f : A → Reading B) (s : List ℕ) (at : ℕ) {n p : ℕ} → refused n p ≡ run m s at → run (m >>= f) s at ≡ refused n p
 unfolding andThen
 stops m f s at e = run-bind m f s at ∙ ap (λ r. andThen r (λ a p. run (f a) s p)) (sym e)
+
+-- the two ways on from a test: what follows it, or its refusal
+pub test-holds : {A : Type 0} {b : Bool} (n o : ℕ) (m : Reading A) (s : List ℕ) (p : ℕ) → b ≡ true → run (check b n o >> m) s p ≡ run m s p
+unfolding run _>>=_
+test-holds n o m s p e = rw e refl
+
+pub test-fails : {A : Type 0} {b : Bool} (n o : ℕ) (m : Reading A) (s : List ℕ) (p : ℕ) → b ≡ false → run (check b n o >> m) s p ≡ refused n o
+unfolding run _>>=_
+test-fails n o m s p e = rw e refl
 
 inside-next : {A : Type 0} (r : Answer A) (s : List ℕ) (at w : ℕ) (a : A) (q : ℕ) (b : Bool) → leb (at + w) (length s) ≡ b
     → (accepted a q ≡ r → q ≤ max (at + w) (length s)) → accepted a q ≡ (if b then r else refused 1 at) → q ≤ max at (length s)

@@ -14,6 +14,12 @@ unfolding andThen seen
 shown-then view (accepted a q) f = refl
 shown-then view (refused n p) f = refl
 
+-- what is made of an answer, and then shown
+pub shown-made : {A B C : Type 0} (view : B → C) (f : A → B) (x : Answer A) → seen view (andThen x (λ a q. accepted (f a) q)) ≡ seen (λ a. view (f a)) x
+unfolding andThen seen
+shown-made view f (accepted a q) = refl
+shown-made view f (refused n p) = refl
+
 -- from one answer two ways go on, of which a view shows the same
 pub then-same : {A B C : Type 0} (view : B → C) (x : Answer A) (f g : A → ℕ → Answer B) → ((a : A) (q : ℕ) → seen view (f a q) ≡ seen view (g a q)) → seen view (andThen x f) ≡ seen view (andThen x g)
 unfolding andThen

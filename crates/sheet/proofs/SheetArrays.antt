@@ -9,10 +9,11 @@ use lib.Dec.{eqb}
 use borrow.Author.Tests.{leb-true, lt-ltb, ne-eqb, eqb-true, eqb-false}
 use Rattle.reading.specs.Back.{bytesOfAll}
 use Rattle.reading.specs.Each.{times}
-use Rattle.reading.specs.Reading.{Reading, done, Answer, accepted, refused, run, _>>=_, _>>_, check, andThen, seen, isAccepted}
+use Rattle.reading.specs.Reading.{done, Answer, accepted, refused, run, andThen, seen, isAccepted}
 use Rattle.fields.specs.Value.{number}
 use Rattle.reading.proofs.Repetition.{times-bytes}
-use Rattle.reading.proofs.RunLaws.{not-there, run-bind, goes-on, stops}
+use Rattle.reading.proofs.RunLaws.{not-there, run-bind, goes-on, stops, test-holds, test-fails}
+use Rattle.reading.proofs.Views.{shown-made}
 use Rattle.scalars.specs.Scalars.{scalarWidth}
 use Rattle.scalars.proofs.Types.{scalar-else}
 use Rattle.values.specs.declared.Dialect.{Dialect}
@@ -21,15 +22,6 @@ use Rattle.sheet.specs.Format.{text, scalar, itemType, array, item, bigE
 use Rattle.sheet.specs.Steps.{stepOf}
 use Rattle.sheet.proofs.BackFromAnswers.{step-then, step-seen}
 use Rattle.sheet.proofs.SheetItems.{item-scalar, item-text}
-
--- goes on after a test that holds, and is refused after one that does not
-held : {A : Type 0} {b : Bool} (m : Reading A) (s : List ℕ) (p : ℕ) → b ≡ true → run (check b 31 0 >> m) s p ≡ run m s p
-unfolding run _>>=_
-held m s p e = rw e refl
-
-failed : {A : Type 0} {b : Bool} (m : Reading A) (s : List ℕ) (p : ℕ) → b ≡ false → run (check b 31 0 >> m) s p ≡ refused 31 0
-unfolding run _>>=_
-failed m s p e = rw e refl
 
 -- an array by its depth: none may stand here, or its item type, the test of that, its count and its
 -- items
@@ -50,14 +42,14 @@ module _ (s : List ℕ) (at : ℕ) where
     array-mistyped zero deep fits = absurd (omega arith)
     array-mistyped (suc d) deep fits =
         let less : suc d - 1 ≡ d = omega arith in
-        goes-on (number 1 true) _ s at typed ∙ failed _ s p (rw less at fits)
+        goes-on (number 1 true) _ s at typed ∙ test-fails 31 0 _ s p (rw less at fits)
 
     pub array-uncounted : (d : ℕ) → 0 < d → itemType (d - 1) t ≡ true → {w r : ℕ} → refused w r ≡ run (number 4 true) s p → run (array d (item d)) s at ≡ refused w r
     unfolding array
     array-uncounted zero deep fits e = absurd (omega arith)
     array-uncounted (suc d) deep fits e =
         let less : suc d - 1 ≡ d = omega arith in
-        goes-on (number 1 true) _ s at typed ∙ held _ s p (rw less at fits) ∙ stops (number 4 true) _ s p e
+        goes-on (number 1 true) _ s at typed ∙ test-holds 31 0 _ s p (rw less at fits) ∙ stops (number 4 true) _ s p e
 
     pub array-items : (d : ℕ) → 0 < d → itemType (d - 1) t ≡ true → {n q : ℕ} → accepted n q ≡ run (number 4 true) s p
         → run (array d (item d)) s at ≡ andThen (run (times n (item d t)) s q) (λ l u. accepted (anArray t l) u)
@@ -65,7 +57,7 @@ module _ (s : List ℕ) (at : ℕ) where
     array-items zero deep fits counted = absurd (omega arith)
     array-items (suc d) deep fits {n} {q} counted =
         let less : suc d - 1 ≡ d = omega arith in
-        goes-on (number 1 true) _ s at typed ∙ held _ s p (rw less at fits) ∙ goes-on (number 4 true) _ s p counted
+        goes-on (number 1 true) _ s at typed ∙ test-holds 31 0 _ s p (rw less at fits) ∙ goes-on (number 4 true) _ s p counted
         ∙ run-bind (times n (item (suc d) t)) (λ l. done (anArray t l)) s q
 
 -- an array that is there
@@ -87,25 +79,19 @@ module _ (s : List ℕ) (at : ℕ) where
 pub plain-type : (d t : ℕ) → itemType d t ≡ true → (t ≡ 9 → ⊥) → t ≤ 12
 plain-type d t fits other = leb-true t 12 (rw (ne-eqb t 9 other) at fits)
 
--- what is made of what was read, and then seen
-seen-made : {A B C : Type 0} (g : B → C) (f : A → B) (r : Answer A) → seen g (andThen r (λ a q. accepted (f a) q)) ≡ seen (λ a. g (f a)) r
-unfolding seen andThen
-seen-made g f (accepted a q) = refl
-seen-made g f (refused n p) = refl
-
 module _ (k : Dialect) (s : List ℕ) where
   scalar-any : (d t : ℕ) → 0 < scalarWidth t → (at : ℕ) → seen (valueBytes (suc d) k) (run (item (suc d) t) s at) ≡ seen (valueBytes 1 k) (run (item 1 t) s at)
   unfolding valueBytes
   scalar-any d t wide at =
       let w = lt-ltb 0 (scalarWidth t) wide in
-      ap (seen (valueBytes (suc d) k)) (item-scalar s at d t w) ∙ seen-made (valueBytes (suc d) k) (aScalar t) (run (scalar t) s at)
-      ∙ sym (ap (seen (valueBytes 1 k)) (item-scalar s at 0 t w) ∙ seen-made (valueBytes 1 k) (aScalar t) (run (scalar t) s at))
+      ap (seen (valueBytes (suc d) k)) (item-scalar s at d t w) ∙ shown-made (valueBytes (suc d) k) (aScalar t) (run (scalar t) s at)
+      ∙ sym (ap (seen (valueBytes 1 k)) (item-scalar s at 0 t w) ∙ shown-made (valueBytes 1 k) (aScalar t) (run (scalar t) s at))
 
   text-any : (d at : ℕ) → seen (valueBytes (suc d) k) (run (item (suc d) 8) s at) ≡ seen (valueBytes 1 k) (run (item 1 8) s at)
   unfolding valueBytes
   text-any d at =
-      ap (seen (valueBytes (suc d) k)) (item-text s at d) ∙ seen-made (valueBytes (suc d) k) (λ a. aText (a .bytes)) (run text s at)
-      ∙ sym (ap (seen (valueBytes 1 k)) (item-text s at 0) ∙ seen-made (valueBytes 1 k) (λ a. aText (a .bytes)) (run text s at))
+      ap (seen (valueBytes (suc d) k)) (item-text s at d) ∙ shown-made (valueBytes (suc d) k) (λ a. aText (a .bytes)) (run text s at)
+      ∙ sym (ap (seen (valueBytes 1 k)) (item-text s at 0) ∙ shown-made (valueBytes 1 k) (λ a. aText (a .bytes)) (run text s at))
 
   -- an item that is no array is the same at every depth
   plain-any : (d t : ℕ) → t ≤ 12 → (t ≡ 9 → ⊥) → (at : ℕ) → seen (valueBytes (suc d) k) (run (item (suc d) t) s at) ≡ seen (valueBytes 1 k) (run (item 1 t) s at)
@@ -128,13 +114,14 @@ module _ (k : Dialect) (s : List ℕ) where
       let less : suc d - 1 ≡ d = omega arith in
       ap (λ e. seen (bytesOfAll (valueBytes (suc e) k)) (run (times n (array e (item e))) s at)) (sym less)
 
+-- of two answers of which the same is seen, the places after them are the same
+alike : {A B C : Type 0} (f : A → C) (g : B → C) (x : Answer A) (y : Answer B) → seen f x ≡ seen g y → stepOf x ≡ stepOf y
+alike f g x y e = sym (step-seen f x) ∙ ap stepOf e ∙ step-seen g y
+
 -- the place after an array is that after its items
 module _ (s : List ℕ) (at : ℕ) {t p : ℕ} (typed : accepted t p ≡ run (number 1 true) s at) {n q : ℕ} (counted : accepted n q ≡ run (number 4 true) s p) (d : ℕ) (deep : 0 < d) (fits : itemType (d - 1) t ≡ true) where
   steps : stepOf (run (array d (item d)) s at) ≡ stepOf (run (times n (item d t)) s q)
   steps = ap stepOf (array-items s at typed d deep fits counted) ∙ step-then (anArray t) (run (times n (item d t)) s q)
-
-  alike : {A B C : Type 0} (f : A → C) (g : B → C) (x : Answer A) (y : Answer B) → seen f x ≡ seen g y → stepOf x ≡ stepOf y
-  alike f g x y e = sym (step-seen f x) ∙ ap stepOf e ∙ step-seen g y
 
   pub steps-arrays : t ≡ 9 → stepOf (run (array d (item d)) s at) ≡ stepOf (run (times n (array (d - 1) (item (d - 1)))) s q)
   steps-arrays nine = steps ∙ rw nine (alike _ _ (run (times n (item d 9)) s q) (run (times n (array (d - 1) (item (d - 1)))) s q) (items-arrays bigEnd s d n q deep))

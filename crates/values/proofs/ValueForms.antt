@@ -1,13 +1,14 @@
 -- A value of a type is what its form reads: a scalar, a text or an array. Assumes nothing.
 use Prim.Native.Nat.{ℕ, _≤_, _<_}
-use mathlib.Core.Path.{_≡_, refl, ap, _∙_}
+use mathlib.Core.Path.{_≡_, ap, _∙_}
 use mathlib.Core.List.{List}
 use lib.Dec.{leb}
 use borrow.Author.Tests.{leb-true, lt-ltb}
 use Rattle.reading.specs.Back.{Sure}
-use Rattle.reading.specs.Reading.{Reading, done, Answer, accepted, refused, run, andThen, seen, passed}
+use Rattle.reading.specs.Reading.{Reading, done, accepted, run, andThen, passed}
 use Rattle.fields.specs.Value.{number}
 use Rattle.reading.proofs.RunLaws.{run-bind}
+use Rattle.reading.proofs.Views.{shown-made}
 use Rattle.reading.proofs.SureLaws.{sure-then, sure-done, sure-here, sure-check, whatever}
 use Rattle.values.specs.Format.{text, type, valueOf}
 use Rattle.scalars.specs.Scalars.{scalarWidth, scalarOf}
@@ -29,19 +30,13 @@ module _ (arrays : ℕ → Reading ArraySpan) (k : Dialect) (o : ℕ) (s : List 
   unfolding valueOf scalarWidth run
   value-array = run-bind (arrays o) (λ a. done (Array a)) s at
 
--- what is kept of an answer, whatever is made of it
-passed-then : {A B : Type 0} (f : A → B) (r : Answer A) → passed (andThen r (λ a q. accepted (f a) q)) ≡ passed r
-unfolding andThen seen
-passed-then f (accepted a q) = refl
-passed-then f (refused n p) = refl
-
 -- of a value only the place is kept: that after its scalar, or its text
 module _ (arrays : ℕ → Reading ArraySpan) (k : Dialect) (o : ℕ) (s : List ℕ) where
   pub passed-scalar : (t : ℕ) → 0 < scalarWidth t → (at : ℕ) → passed (run (valueOf arrays k o t) s at) ≡ passed (run (number (scalarWidth t) (k .big)) s at)
-  passed-scalar t wide at = ap passed (value-scalar arrays k o s at t wide) ∙ passed-then (λ n. Single (scalarOf t n)) (run (number (scalarWidth t) (k .big)) s at)
+  passed-scalar t wide at = ap passed (value-scalar arrays k o s at t wide) ∙ shown-made (λ v. tt {0}) (λ n. Single (scalarOf t n)) (run (number (scalarWidth t) (k .big)) s at)
 
   pub passed-text : (at : ℕ) → passed (run (valueOf arrays k o 8) s at) ≡ passed (run (text k) s at)
-  passed-text at = ap passed (value-text arrays k o s at) ∙ passed-then Text (run (text k) s at)
+  passed-text at = ap passed (value-text arrays k o s at) ∙ shown-made (λ v. tt {0}) Text (run (text k) s at)
 
 -- a type that was accepted is one of the thirteen
 pub sure-type : (k : Dialect) (s : List ℕ) (p : ℕ) → Sure s (type k) p (λ t q. t ≤ 12)

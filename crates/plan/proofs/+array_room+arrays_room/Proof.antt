@@ -28,7 +28,7 @@ use Rattle.sheet.proofs.BackFromAnswers.{Shows, step-no, step-yes, step-there, 
 use Rattle.sheet.proofs.SheetArrays.{array-deep}
 use Rattle.plan.specs.Steps.{takenFrom}
 use Rattle.plan.proofs.Rooms.{taken-twice, taken-thrice, room-turn, room-end}
-use Rattle.plan.proofs.PartLengths.{size-cases}
+use Rattle.plan.proofs.PartLengths.{size-cases, rows-more, rows-none}
 use Rattle.plan.proofs.ArraysSaid.{ArraySaid, no-type, no-count, of-arrays, of-plain}
 use Rattle.plan.proofs.ValueLengths.{wider, Measured, array-measure, heard-one}
 use Rattle.fields.proofs.number_at.Reads as number-at
@@ -233,12 +233,16 @@ module _ (m : ℕ) where
       c .array-room .ensures ∙ ap (λ x. takenFrom (l .left) (length (valueBytes (suc (a .depth)) (a .dialect) x))) (heard-one (y .is)) in (
         omega arith,
         times-accepted _ (now (a .s)) (l .from) (a .n) (l .i) below (y .is) (l .inv .1),
-        l .inv .2 ∙ room-turn (valueBytes (suc (a .depth)) (a .dialect)) _ (now (a .s)) (l .from) (a .n) (l .i) (l .left) below (l .inv .1) (y .is)
+        l .inv .2 ∙ room-turn (λ x. length (bytesOfAll (valueBytes (suc (a .depth)) (a .dialect)) x)) _ (now (a .s)) (l .from) (a .n) (l .i) (l .left) below (l .inv .1) (y .is) _ (rows-more (valueBytes (suc (a .depth)) (a .dialect)) (y .what))
             ∙ ap (λ r. takenFrom r (arraysLength (a .depth) (a .dialect) (a .n - (l .i + 1)) (now (a .s)) q)) (sym taken),
       )
 
   arrays-returns-2 : In-arrays arrays-lts.Need-returns-2
-  arrays-returns-2 c = let l = c .before .loop in sym (l .inv .2 ∙ room-end _ _ _ (l .from) _ (l .i) (l .left) (omega arith))
+  arrays-returns-2 c =
+      let l = c .before .loop in
+      let a = c .before .before .before .args in
+      let enc = valueBytes (suc (a .depth)) (a .dialect) in
+      sym (l .inv .2 ∙ room-end (λ x. length (bytesOfAll enc x)) _ _ (l .from) _ (l .i) (l .left) (rows-none enc) (omega arith))
 
   array-spec : {M : Type 1} → array-lts.Closed array-calls array-given array-room.Post M
   array-spec =
