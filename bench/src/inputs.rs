@@ -8,6 +8,8 @@ pub struct Plan {
     /// Whether each token has a score and a type.
     pub scored: bool,
     pub merges: u64,
+    /// How many scores stand in an array without tokens.
+    pub scores: u64,
     /// How many lists of two numbers stand in one list, and in a third and a fourth. The original
     /// reads no such header.
     pub lists: u64,
@@ -27,6 +29,7 @@ impl Plan {
                 "tokens" => plan.tokens = count,
                 "scored" => plan.scored = true,
                 "merges" => plan.merges = count,
+                "scores" => plan.scores = count,
                 "lists" => plan.lists = count,
                 "tensors" => plan.tensors = count,
                 "cut" => plan.cut = Some(count as usize),
@@ -132,6 +135,11 @@ impl Made {
         }
     }
 
+    fn scores(&mut self, count: u64) {
+        self.array("tokenizer.ggml.scores", F32, count);
+        (0..count).for_each(|i| self.u32((-(i as f32)).to_bits()));
+    }
+
     fn vocabulary(&mut self, plan: Plan) {
         let mut text = vec![];
         self.array("tokenizer.ggml.tokens", TEXT, plan.tokens);
@@ -141,8 +149,7 @@ impl Made {
             self.text(&text);
         }
         if plan.scored {
-            self.array("tokenizer.ggml.scores", F32, plan.tokens);
-            (0..plan.tokens).for_each(|i| self.u32((-(i as f32)).to_bits()));
+            self.scores(plan.tokens);
             self.array("tokenizer.ggml.token_type", I32, plan.tokens);
             (0..plan.tokens).for_each(|i| self.u32(if i < 3 { 3 } else { 1 }));
         }
@@ -194,6 +201,9 @@ impl Made {
         self.string("tokenizer.ggml.model", "llama");
         if plan.tokens > 0 {
             self.vocabulary(plan);
+        }
+        if plan.scores > 0 {
+            self.scores(plan.scores);
         }
         self.number("tokenizer.ggml.bos_token_id", 1);
         self.number("tokenizer.ggml.eos_token_id", 2);

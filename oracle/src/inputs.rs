@@ -390,18 +390,56 @@ pub fn smallest_nestings() -> Vec<Made> {
     for item in [0, 9] {
         for around in 0..5 {
             let mut made = start(1, false, 0, 1);
-            made.text(b"");
-            made.number(4, 9);
-            for _ in 0..around {
-                made.number(4, 9);
-                made.size(1);
-            }
-            made.number(4, item);
-            made.size(0);
+            array_entry(&mut made, b"", around, item, 0);
             all.push(made);
         }
     }
     all
+}
+
+/// For every version and byte order, an array of each type of scalars, alone and with three others
+/// around it, where up to 17 bytes stand for its items; with counts that fit and that are too many.
+pub fn every_length() -> Vec<Made> {
+    let mut all = vec![];
+    for (version, big) in FORMS {
+        for (item, width) in (0..).zip(WIDTHS).filter(|(_, width)| *width > 0) {
+            for bytes in 0..18 {
+                for count in counts_about((bytes / width) as u64, width as u64, version) {
+                    for around in [0, 3] {
+                        let mut made = start(version, big, 0, 1);
+                        array_entry(&mut made, b"a", around, item, count);
+                        made.bytes.resize(made.bytes.len() + bytes, 0xA5);
+                        all.push(made);
+                    }
+                }
+            }
+        }
+    }
+    all
+}
+
+/// Counts of items of a width, of those that a version can say: as many as are there, one more, and
+/// those whose bytes are, in 64 bits or in 32, none, as many as are there, or the most.
+fn counts_about(there: u64, width: u64, version: u64) -> BTreeSet<u64> {
+    let wraps = (u64::MAX / width).wrapping_add(1);
+    let products = [1 << 29, 1 << 61, wraps];
+    let about = |count: u64| [count.wrapping_sub(1), count, count.wrapping_add(there)];
+    let others = [there, there + 1, u32::MAX.into(), u64::MAX];
+    let most = if version == 1 { u32::MAX.into() } else { u64::MAX };
+    let all = products.into_iter().flat_map(about).chain(others);
+    all.filter(|count| *count <= most).collect()
+}
+
+/// An entry up to the items of an array that has so many others around it, of one item each.
+fn array_entry(made: &mut Made, key: &[u8], around: u64, item: u64, count: u64) {
+    made.text(key);
+    made.number(4, 9);
+    for _ in 0..around {
+        made.number(4, 9);
+        made.size(1);
+    }
+    made.number(4, item);
+    made.size(count);
 }
 
 /// An entry whose value is an array with so many others around it.

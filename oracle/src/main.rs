@@ -22,8 +22,9 @@ use original::{FILE_MAGIC_GGUF_LE, GGUF_VERSION_V1, GGUF_VERSION_V2, GGUF_VERSIO
 
 use compare::Agreed;
 use inputs::{
-    asked_header, damaged, every_answer, every_kind, every_nesting, every_offset, header,
-    kept_fronts, long_header, many_tensors, nested_answers, smallest_nestings, Made, Random,
+    asked_header, damaged, every_answer, every_kind, every_length, every_nesting, every_offset,
+    header, kept_fronts, long_header, many_tensors, nested_answers, smallest_nestings, Made,
+    Random,
 };
 use questions::Asked;
 
@@ -43,6 +44,7 @@ fn main() {
             let Readers { made, kept } = compare_readers(headers);
             let kept = compare_questions(headers, made.asked, kept);
             compare_kept_magic(kept);
+            compare_lengths();
             compare_writers(sheets.parse().expect("how many sheets"), scratch);
         }
         _ => eprintln!("oracle: HEADERS SHEETS SCRATCH, or --sample FILE SCRATCH"),
@@ -174,6 +176,19 @@ fn compare_kept_magic(mut kept: Agreed) {
     }
     println!("The readers, on big-endian headers that keep the magic");
     kept.print();
+}
+
+/// Holds the readers against each other on arrays whose counts fit or are too many. These are
+/// counted apart from all others, also where the magic is kept.
+fn compare_lengths() {
+    let mut readers = Readers::default();
+    for made in every_length() {
+        readers.on(&made, &made.bytes, 3);
+    }
+    println!("The readers, on arrays of counts that fit and that are too many");
+    readers.made.print();
+    println!("The same, big-endian with the magic kept");
+    readers.kept.print();
 }
 
 fn compare_writers(sheets: u64, scratch: &str) {

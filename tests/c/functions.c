@@ -377,6 +377,45 @@ static void arrays_are_four_deep(void) {
     CHECK(answer[SP_ANSWER_PLACE] == end - 8);
 }
 
+/* Measures a header of version 3 whose only entry is an array of so many items of a type. The first
+ * stands at 49, and 23 bytes are there. */
+static uint64_t measure_array(uint8_t type, uint64_t count, uint64_t *answer) {
+    uint8_t file[72] = {'G', 'G', 'U', 'F', 3};
+    file[16] = 1;
+    file[24] = 1;
+    file[32] = 'k';
+    file[33] = SP_TYPE_ARRAY;
+    file[37] = type;
+    for (unsigned i = 0; i < 8; i++)
+        file[41 + i] = (uint8_t)(count >> 8 * i);
+    return sp_measure(file, sizeof file, 3, 39, answer);
+}
+
+/* An array that is too long is refused at its first item that is missing, whatever its count: also
+ * where, in 64 bits, its bytes would be those that are there, or its end before its start. */
+static void arrays_too_long(void) {
+    static const struct {
+        uint8_t type;
+        uint64_t there, wraps, end;
+    } of[] = {
+        {SP_TYPE_U8, 23, UINT64_MAX - 24, 72},
+        {SP_TYPE_I16, 11, (UINT64_C(1) << 63) + 11, 71},
+        {SP_TYPE_F32, 5, (UINT64_C(1) << 62) + 5, 69},
+        {SP_TYPE_U64, 2, (UINT64_C(1) << 61) + 2, 65},
+    };
+    uint64_t answer[SP_ANSWER_WORDS];
+    for (size_t i = 0; i < sizeof of / sizeof *of; i++) {
+        const uint64_t counts[] = {of[i].there + 1, UINT32_MAX, (UINT64_C(1) << 61) - 1,
+                                   UINT64_C(1) << 61, of[i].wraps, UINT64_MAX};
+        CHECK(measure_array(of[i].type, of[i].there, answer) == 0);
+        CHECK(answer[SP_ANSWER_HEADER_END] == of[i].end);
+        for (size_t j = 0; j < sizeof counts / sizeof *counts; j++) {
+            CHECK(measure_array(of[i].type, counts[j], answer) == SP_CUT_OFF);
+            CHECK(answer[SP_ANSWER_PLACE] == of[i].end);
+        }
+    }
+}
+
 /* Every number has words of its own, and what is no number has others. */
 static void reasons(void) {
     static const uint64_t numbers[] = {0,  1,  2,  3,   4,   5,  6,  7,  8,  9,  10, 11, 12,
@@ -414,6 +453,7 @@ int main(void) {
     big_endian_is_version_3();
     lists_of_lists();
     arrays_are_four_deep();
+    arrays_too_long();
     reasons();
     versions_agree();
     return failed;

@@ -237,6 +237,47 @@ fn cut_off_inside_arrays_1() {
     assert_eq!(refused(&made(3, Little, 0, 1).array("k", 9, u64::MAX).inner(9, 0).bytes), (1, 61));
 }
 
+/// The types of scalars with the bytes of one, each with up to 17 bytes of items.
+fn scalars_and_bytes() -> impl Iterator<Item = (u64, u64, u64)> {
+    let widths = [1, 1, 2, 2, 4, 4, 4, 1, 0, 0, 8, 8, 8];
+    let scalars = (0..).zip(widths).filter(|(_, width)| *width > 0);
+    scalars.flat_map(|(item_type, width)| (0..18).map(move |bytes| (item_type, width, bytes)))
+}
+
+/// Counts above the items that are there: one more; those whose product with the width is, in 64
+/// bits, the largest, none, or what is there; and the greatest.
+fn counts_above(there: u64, width: u64) -> Vec<u64> {
+    let largest = u64::MAX / width;
+    let mut counts = vec![there + 1, largest, (1 << 61) - 1, 1 << 61, (1 << 61) + there, u64::MAX];
+    counts.extend(largest.checked_add(1));
+    counts.extend(largest.checked_add(1 + there));
+    counts
+}
+
+/// Whether the file, which ends in an array's count, is refused at the first item that is missing
+/// where so many bytes of items of a width follow.
+fn stops_at_the_missing_item(mut file: Vec<u8>, width: u64, bytes: u64) -> bool {
+    let missing = file.len() as u64 + bytes / width * width;
+    file.resize(file.len() + bytes as usize, 1);
+    refused(&file) == (1, missing)
+}
+
+#[test]
+fn arrays_too_long_1() {
+    for (version, order) in DIALECTS {
+        let most = if version == 1 { u32::MAX.into() } else { u64::MAX };
+        for (item_type, width, bytes) in scalars_and_bytes() {
+            for count in counts_above(bytes / width, width).into_iter().filter(|n| *n <= most) {
+                let said = format!("{bytes} bytes, {count} of {item_type}, version {version}");
+                let alone = made(version, order, 0, 1).array("k", item_type, count).bytes.clone();
+                assert!(stops_at_the_missing_item(alone, width, bytes), "{said}");
+                let inside = fourth(version, order, item_type, count);
+                assert!(stops_at_the_missing_item(inside, width, bytes), "{said}");
+            }
+        }
+    }
+}
+
 #[test]
 fn types_and_strings_inside_arrays_7_and_8() {
     assert_eq!(refused(&made(3, Little, 0, 1).array("k", 9, 1).inner(13, 0).bytes), (8, 49));

@@ -1,6 +1,6 @@
 -- A number at a place, at every width and in both orders: the field, and its bytes taken one at a
 -- time, the greatest first. Assumes nothing.
-use Prim.Native.Nat.{ℕ, zero, suc, _+_, _*_, _^_, _≤_, _<_}
+use Prim.Native.Nat.{ℕ, zero, suc, _+_, _-_, _*_, _/_, _^_, _≤_, _<_}
 use mathlib.Core.Path.{_≡_, refl, sym, ap, _∙_}
 use mathlib.Core.List.{List, [], _∷_, _++_, reverse, reverse-append}
 use mathlib.Core.Bool.{Bool, true, false}
@@ -12,9 +12,11 @@ use lib.Seq.{drop-cons, drop-drop, take-add, take-take, length-take-le}
 use lib.Dec.{leb}
 use borrow.Author.Tests.{le-leb, lt-leb}
 use Rattle.reading.specs.Choice.{if_then_else_}
-use Rattle.reading.specs.Reading.{accepted, refused, run}
+use Rattle.reading.specs.Each.{times}
+use Rattle.reading.specs.Reading.{accepted, refused, run, passed}
 use Rattle.fields.specs.Value.{leValue, value, halves, number}
 use Rattle.reading.proofs.Pieces.{small}
+use Rattle.reading.proofs.Widths.{times-width}
 
 -- a number that is wholly there, and one that is not
 pub number-there : (w : ℕ) (big : Bool) (s : List ℕ) (at : ℕ) → at + w ≤ length s → run (number w big) s at ≡ accepted (value big (take w (drop at s))) (at + w)
@@ -24,6 +26,12 @@ number-there w big s at h = rw (le-leb (at + w) (length s) h, take-take w w (dro
 pub number-missing : (w : ℕ) (big : Bool) (s : List ℕ) (at : ℕ) → length s < at + w → run (number w big) s at ≡ refused 1 at
 unfolding run number
 number-missing w big s at h = rw (lt-leb (at + w) (length s) h)
+
+-- so many of one width, one after the other: a division tells how many are there
+pub numbers-passed : (w : ℕ) (big : Bool) (s : List ℕ) → 0 < w → (n at : ℕ)
+    → passed (run (times n (number w big)) s at) ≡ (if leb n ((length s - at) / w) then accepted tt (at + n * w) else refused 1 (at + (length s - at) / w * w))
+unfolding number
+numbers-passed w big s = times-width w w (value big) s
 
 refused-cases : (s : List ℕ) (at w v n p : ℕ) (b : Bool) → refused n p ≡ (if b then accepted v (at + w) else refused 1 at) → (if b then accepted v (at + w) else refused 1 at) ≡ refused 1 at
 refused-cases s at w v n p true e = let z : _≡_ {A = ℕ} 0 1 = cc in absurd (omega arith)

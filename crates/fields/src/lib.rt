@@ -3,7 +3,7 @@
 //
 // `number_at` reads every width, and `put_number` writes every width, in either order. With a known
 // width and order the sums of bytes that it is made of compile to one load (and a swap).
-ghost use Prim.Native.Nat.{_+_, _<_, _^_, _≤_};
+ghost use Prim.Native.Nat.{_+_, _/_, _<_, _^_, _≤_};
 ghost use lib.ListN.{drop, length, replicate, take};
 ghost use mathlib.Core.Bool.{false, true};
 ghost use mathlib.Core.List.{[], _∷_};
@@ -39,6 +39,19 @@ pub fn bytes_in(width: Width) -> usize
         Width::Two => 2,
         Width::Four => 4,
         Width::Eight => 8,
+    }
+}
+
+// How many numbers of a width stand in len bytes, one after the other. Each divisor stands in the
+// text, so that the compiler has a shift and no division.
+pub fn numbers_in(len: usize, width: Width) -> usize
+    ensures { λ r. ⌜ r ≡ len / widthOf width ⌝ }
+{
+    match width {
+        Width::One => len,
+        Width::Two => len / 2,
+        Width::Four => len / 4,
+        Width::Eight => len / 8,
     }
 }
 

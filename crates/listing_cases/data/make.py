@@ -612,6 +612,25 @@ def faults_of_arrays():
         for item in items:
             file.item(kind, item)
         file.missing()
+    # Of 2^61 items of 8 bytes, which would wrap to no bytes, one is there and half of the next.
+    file = front("fault_array_count_that_wraps_to_0", entries=1)
+    file.key_and_type(b"k", ARRAY)
+    file.array_start(U64, 2**61)
+    file.item(U64, 1)
+    file.cut(file.item(U64, 2), 4)
+    # Its items begin at 49, so it would end at 24, where its own entry begins.
+    file = front("fault_array_that_wraps_to_its_own_entry", entries=512)
+    file.key_and_type(b"k", ARRAY)
+    file.array_start(U8, 2**64 - 25)
+    file.item(U8, 1)
+    file.missing()
+    # The array inside another would have the 4 bytes that are there.
+    file = front("fault_inner_array_count_that_wraps", entries=1, version=2)
+    file.key_and_type(b"k", ARRAY)
+    file.array_start(ARRAY, 1)
+    file.array_start(F32, 2**62 + 1)
+    file.item(F32, 1)
+    file.missing()
 
 
 def faults_of_shapes():

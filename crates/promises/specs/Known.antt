@@ -136,6 +136,13 @@ lists = items1 9 2 ++ items1 0 2 ++ (1 ∷ 2 ∷ []) ++ items1 0 1 ++ (3 ∷ [])
 abbrev pub fiveLists : List ℕ
 fiveLists = items1 9 5 ++ items1 0 0 ++ items1 0 2 ++ (1 ∷ 2 ∷ []) ++ items1 8 0 ++ items1 9 0 ++ items1 0 1 ++ (3 ∷ [])
 
+-- version 3, no tensors, and one entry: the key a, whose value is an array of items of the type t;
+-- the bytes of its count, and n zeros where its items stand
+abbrev pub longIn3 : ℕ → List ℕ → ℕ → List ℕ
+longIn3 t count n =
+    (0x47 ∷ 0x47 ∷ 0x55 ∷ 0x46 ∷ 3 ∷ 0 ∷ 0 ∷ 0 ∷ 0 ∷ 0 ∷ 0 ∷ 0 ∷ 0 ∷ 0 ∷ 0 ∷ 0 ∷ 1 ∷ 0 ∷ 0 ∷ 0 ∷ 0 ∷ 0 ∷ 0 ∷ 0 ∷
+    1 ∷ 0 ∷ 0 ∷ 0 ∷ 0 ∷ 0 ∷ 0 ∷ 0 ∷ 97 ∷ 9 ∷ 0 ∷ 0 ∷ 0 ∷ t ∷ 0 ∷ 0 ∷ 0 ∷ count) ++ replicate n 0
+
 -- The record sheet of those two tensors: lengths, tags, names, kinds and shapes.
 abbrev pub sheetAB : List ℕ
 sheetAB =
@@ -297,6 +304,13 @@ pub record Known : Type 0 where
   pub third-type : readerRun full 0 ([] ∷ []) [] (arrayIn1 (items1 9 1 ++ items1 9 1 ++ items1 13 0)) ≡ refused 8 41
   -- of a tokenizer's lists a cap of 3 keeps three, and all are checked
   pub tokens-read : readerRun full 3 ([] ∷ []) [] (tokensIn1 fiveLists) ≡ onlyArrays 11 5 3 86 96
+  -- of 23 bytes of items the first that is missing, where the count is one more than fits, 2 ^ 61 - 1,
+  -- 2 ^ 61 and 2 ^ 64 - 1; and of 9 bytes in the fourth array, where it is 2 ^ 32 - 1
+  pub long-u8 : readerRun full 0 ([] ∷ []) [] (longIn3 0 (24 ∷ replicate 7 0) 23) ≡ refused 1 72
+  pub long-u16 : readerRun full 0 ([] ∷ []) [] (longIn3 2 (replicate 7 255 ++ (31 ∷ [])) 23) ≡ refused 1 71
+  pub long-f32 : readerRun full 0 ([] ∷ []) [] (longIn3 6 (replicate 7 0 ++ (32 ∷ [])) 23) ≡ refused 1 69
+  pub long-u64 : readerRun full 0 ([] ∷ []) [] (longIn3 10 (replicate 8 255) 23) ≡ refused 1 65
+  pub long-inside : readerRun full 0 ([] ∷ []) [] (arrayIn1 (inThree (10 ∷ 0 ∷ 0 ∷ 0 ∷ replicate 4 255) ++ replicate 9 0)) ≡ refused 1 65
   -- a sheet of no bytes is refused, whatever the output
   pub no-sheet : (out : List ℕ) → answerFor (little 3) 32 [] out ≡ NotWritten 31 0
   -- the sheet of the byte 1: 24 bytes, then 8 zeros

@@ -1,5 +1,6 @@
 pub mod Pieces
 pub mod Repetition
+pub mod Widths
 pub mod BackLaws
 pub mod CeilingLaws
 pub mod SureLaws

@@ -12,6 +12,7 @@ use fields::Number;
 use fields::Width;
 use rows::EntryRow;
 use scalars::Scalar;
+use scalars::ScalarWidth;
 ghost use Prim.Native.Nat.{ℕ, _+_, _<_, _≤_};
 ghost use lib.ListN.{drop, length, take};
 ghost use mathlib.Core.Path.{_≡_};
@@ -250,25 +251,24 @@ fn pass_texts(s: &[u8], at: usize, n: u64, dialect: Dialect) -> Passed
     Passed::To { next: from }
 }
 
-// Passes n scalars of the type t: every one is read.
+// Passes n scalars of the type t in one step. What they say, in either byte order, is not asked for
+// here: by their width the bytes that are left tell how many are there, and the first that is not
+// stands behind those. The division comes before the product, so nothing can wrap, whatever n is.
 fn pass_scalars(s: &[u8], at: usize, n: u64, dialect: Dialect, t: u64) -> Passed
     requires { ⌜ 0 < scalarWidth t ⌝ }
     ensures { λ r. ⌜ asPassed r ≡ passed (run (times n (number (scalarWidth t) (dialect .big))) (now (s .entry)) at) ⌝ }
 {
-    let mut from = at;
-    let mut i: u64 = 0;
-    while i < n {
-        match scalars::read_scalar(s, from, t, dialect.big) {
-            Number::Refused { why, place } => {
-                return Passed::Refused { why, place };
-            }
-            Number::Value { value: _, next } => {
-                from = next;
-            }
-        }
-        i += 1;
+    let ScalarWidth::Of { width } = scalars::scalar_width(t) else {
+        return Passed::Refused { why: 1, place: at };
+    };
+    let left = if at < s.len() { s.len() - at } else { 0 };
+    let there = fields::numbers_in(left, width) as u64;
+    let passed = if there < n { there } else { n };
+    let end = at + (passed as usize) * fields::bytes_in(width);
+    if there < n {
+        return Passed::Refused { why: 1, place: end };
     }
-    Passed::To { next: from }
+    Passed::To { next: end }
 }
 
 // Passes n items of the type t, which are no arrays: so the contract holds whatever reads an array,
@@ -340,8 +340,8 @@ fn read_array(s: &[u8], at: usize, dialect: Dialect, o: usize, depth: u64) -> Ar
 }
 
 // Passes n items of the type t, which stands at o, where depth arrays may still stand in one
-// another: every one is read. Items that are no arrays have loops of their own, which make no call
-// of the cycle.
+// another: arrays are read, one after the other, and what is no array is passed without a call of
+// the cycle.
 fn pass_items(s: &[u8], at: usize, n: u64, dialect: Dialect, t: u64, o: usize, depth: u64) -> Passed
     requires { ⌜ t ≤ 12 ⌝ }
     ensures { λ r. ⌜ asPassed r ≡ passed (run (times n (format.valueOf (format.array depth dialect) dialect o t)) (now (s .entry)) at) ⌝ }
