@@ -10,26 +10,26 @@ use native.Mathlib.Nat.{mul-suc, mul-le-mul-right, add-suc, mul-assoc, pow-succ'
 use lib.ListN.{length, take, drop, getD, length-drop, length-reverse}
 use lib.Seq.{drop-cons, drop-drop, take-add, take-take, length-take-le}
 use lib.Dec.{leb}
-use borrow.Author.Tests.{le-leb, lt-leb}
 use Rattle.reading.specs.Choice.{if_then_else_}
 use Rattle.reading.specs.Each.{times}
-use Rattle.reading.specs.Reading.{accepted, refused, run, passed}
+use Rattle.reading.specs.Reading.{done, accepted, refused, run, passed}
 use Rattle.fields.specs.Value.{leValue, value, halves, number}
 use Rattle.reading.proofs.Pieces.{small}
+use Rattle.reading.proofs.RunLaws.{field-there, field-missing}
 use Rattle.reading.proofs.Widths.{times-width}
 
 -- a number that is wholly there, and one that is not
 pub number-there : (w : ℕ) (big : Bool) (s : List ℕ) (at : ℕ) → at + w ≤ length s → run (number w big) s at ≡ accepted (value big (take w (drop at s))) (at + w)
 unfolding run number
-number-there w big s at h = rw (le-leb (at + w) (length s) h, take-take w w (drop at s) (omega arith))
+number-there w big s at h = rw (field-there w w (λ bs. done (value big bs)) s at h, take-take w w (drop at s) (omega arith))
 
 pub number-missing : (w : ℕ) (big : Bool) (s : List ℕ) (at : ℕ) → length s < at + w → run (number w big) s at ≡ refused 1 at
-unfolding run number
-number-missing w big s at h = rw (lt-leb (at + w) (length s) h)
+unfolding number
+number-missing w big s at h = field-missing w w (λ bs. done (value big bs)) s at h
 
--- so many of one width, one after the other: a division tells how many are there
+-- so many of one width, one after the other: a division tells where the first that is missing stands
 pub numbers-passed : (w : ℕ) (big : Bool) (s : List ℕ) → 0 < w → (n at : ℕ)
-    → passed (run (times n (number w big)) s at) ≡ (if leb n ((length s - at) / w) then accepted tt (at + n * w) else refused 1 (at + (length s - at) / w * w))
+    → passed (run (times n (number w big)) s at) ≡ (if leb (n * w) (length s - at) then accepted tt (at + n * w) else refused 1 (at + (length s - at) / w * w))
 unfolding number
 numbers-passed w big s = times-width w w (value big) s
 

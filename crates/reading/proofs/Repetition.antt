@@ -51,6 +51,16 @@ unfolding andThen
 filled-cons row table i a (accepted l p) b h = row-cons table i (row a) (map row l) (length l) b
 filled-cons row table i a (refused n p) b h = let z : _≡_ {A = ℕ} 0 1 = cc in absurd (omega arith)
 
+-- the first of n + 1, which is not there, or after which n are left
+module _ {S A : Type 0} (m : S → Reading A) (f : S → A → S) (s : List ℕ) (at n : ℕ) (z : S) where
+  first-stops : {w p : ℕ} → refused w p ≡ run (m z) s at → run (each m f (suc n) z) s at ≡ refused w p
+  unfolding each
+  first-stops e = stops (m z) _ s at e
+
+  first-more : {a : A} {q : ℕ} → accepted a q ≡ run (m z) s at → run (each m f (suc n) z) s at ≡ andThen (run (each m f n (f z a)) s q) (λ l p. accepted (a ∷ l) p)
+  unfolding each
+  first-more {a} {q} e = goes-on (m z) _ s at e ∙ then-cons (each m f n (f z a)) a s q
+
 -- a turn, as a loop has it that counts i up to n, with the state z
 module _ {S A : Type 0} (m : S → Reading A) (f : S → A → S) (s : List ℕ) (at n i : ℕ) (z : S) where
   pub each-ends : n ≤ i → run (each m f (n - i) z) s at ≡ accepted [] at
@@ -58,14 +68,10 @@ module _ {S A : Type 0} (m : S → Reading A) (f : S → A → S) (s : List ℕ)
   each-ends h = let k : n - i ≡ 0 = omega arith in rw k
 
   pub each-stops : i < n → {w p : ℕ} → refused w p ≡ run (m z) s at → run (each m f (n - i) z) s at ≡ refused w p
-  unfolding each
-  each-stops h e = let k : n - i ≡ suc (n - (i + 1)) = omega arith in rw k (stops (m z) _ s at e)
+  each-stops h e = let k : n - i ≡ suc (n - (i + 1)) = omega arith in rw k (first-stops m f s at (n - (i + 1)) z e)
 
   pub each-more : i < n → {a : A} {q : ℕ} → accepted a q ≡ run (m z) s at → run (each m f (n - i) z) s at ≡ andThen (run (each m f (n - (i + 1)) (f z a)) s q) (λ l p. accepted (a ∷ l) p)
-  unfolding each
-  each-more h {a} {q} e =
-      let k : n - i ≡ suc (n - (i + 1)) = omega arith in
-      rw k (goes-on (m z) _ s at e ∙ then-cons (each m f (n - (i + 1)) (f z a)) a s q)
+  each-more h e = let k : n - i ≡ suc (n - (i + 1)) = omega arith in rw k (first-more m f s at (n - (i + 1)) z e)
 
   -- what is folded, which may be the state or anything else
   pub each-seen : i < n → {a : A} {q : ℕ} → accepted a q ≡ run (m z) s at → {T : Type 0} (g : T → A → T) (y : T) → seen (fold g y) (run (each m f (n - i) z) s at) ≡ seen (fold g (g y a)) (run (each m f (n - (i + 1)) (f z a)) s q)
@@ -126,6 +132,15 @@ module _ {A : Type 0} (m : Reading A) (s : List ℕ) (at n i : ℕ) where
       → take i table ++ filled row (drop i table) (run (times (n - i) m) s at) ≡ take (i + 1) (set table i (row a)) ++ filled row (drop (i + 1) (set table i (row a))) (run (times (n - (i + 1)) m) s q)
   times-filled = each-filled {S = Unit {0}} (λ z. m) (λ z a. z) s at n i tt
 
+-- the first of n + 1, where only the place is kept
+module _ {A : Type 0} (m : Reading A) (s : List ℕ) (at n : ℕ) where
+  pub times-first : {a : A} {q : ℕ} → accepted a q ≡ run m s at → passed (run (times (suc n) m) s at) ≡ passed (run (times n m) s q)
+  times-first {a} {q} e = ap passed (first-more {S = Unit {0}} (λ z. m) (λ z a. z) s at n tt e) ∙ passed-cons a (run (times n m) s q)
+
+  pub times-none : {w p : ℕ} → refused w p ≡ run m s at → passed (run (times (suc n) m) s at) ≡ refused w p
+  unfolding seen
+  times-none e = ap passed (first-stops {S = Unit {0}} (λ z. m) (λ z a. z) s at n tt e)
+
 -- back from what is seen of an answer
 seen-parts : {A B : Type 0} (g : A → B) (r : Answer A) {b : B} {q : ℕ} → accepted b q ≡ seen g r → (a : A) × (accepted a q ≡ r) × (b ≡ g a)
 unfolding seen
@@ -154,17 +169,12 @@ map-cons f a (refused n p) = refl
 module _ {A C : Type 0} (f : A → C) (m : Reading A) (s : List ℕ) (n at : ℕ) where
   shown-more : {c : C} {q : ℕ} → accepted c q ≡ seen f (run m s at) → seen (map f) (run (times (suc n) m) s at) ≡ seen (λ l. c ∷ l) (seen (map f) (run (times n m) s q))
   shown-more {c} {q} e =
-      let all : suc n - 0 ≡ suc n = omega arith in
-      let less : suc n - (0 + 1) ≡ n = omega arith in
       let r = seen-parts f (run m s at) e in
-      let h = each-more {S = Unit {0}} (λ z. m) (λ z a. z) s at (suc n) 0 tt (omega arith) (r .1) in
-      rw (r .2) (ap (seen (map f)) (rw (all, less) at h) ∙ map-cons f (r .0) (run (times n m) s q))
+      rw (r .2) (ap (seen (map f)) (first-more {S = Unit {0}} (λ z. m) (λ z a. z) s at n tt (r .1)) ∙ map-cons f (r .0) (run (times n m) s q))
 
   shown-not : {w p : ℕ} → refused w p ≡ seen f (run m s at) → seen (map f) (run (times (suc n) m) s at) ≡ refused w p
   unfolding seen
-  shown-not e =
-      let all : suc n - 0 ≡ suc n = omega arith in
-      ap (seen (map f)) (rw all at (times-stops m s at (suc n) 0 (omega arith) (seen-none f (run m s at) e)))
+  shown-not e = ap (seen (map f)) (first-stops {S = Unit {0}} (λ z. m) (λ z a. z) s at n tt (seen-none f (run m s at) e))
 
 -- two programs of which views show the same, and what these show of them so many times
 module _ {A B C : Type 0} (f : A → C) (g : B → C) (m : Reading A) (k : Reading B) (s : List ℕ) (alike : (p : ℕ) → seen f (run m s p) ≡ seen g (run k s p)) where

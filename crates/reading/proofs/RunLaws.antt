@@ -1,6 +1,6 @@
 -- The laws of `run`, proved once for every program: one program after another, bytes that follow,
 -- and how far a program reads. Assumes nothing.
-use Prim.Native.Nat.{ℕ, _+_, _≤_, max}
+use Prim.Native.Nat.{ℕ, _+_, _≤_, _<_, max}
 use mathlib.Core.Path.{_≡_, refl, sym, ap, subst, _∙_}
 use mathlib.Core.List.{List, _++_}
 use mathlib.Core.Bool.{Bool, true, false}
@@ -8,7 +8,7 @@ use native.Mathlib.Omega.{arith}
 use lib.ListN.{length, take, drop, length-append, length-drop}
 use lib.Seq.{take-take, take-append-le, drop-append-le}
 use lib.Dec.{T, leb}
-use borrow.Author.Tests.{leb-true, le-leb, ne-eqb}
+use borrow.Author.Tests.{leb-true, le-leb, lt-leb, ne-eqb}
 use Rattle.reading.specs.Choice.{if_then_else_}
 use Rattle.reading.specs.Reading.{Reading, done, refuse, place, field, known, Answer, accepted, refused, run, _>>=_, _>>_, check, next, skip, andThen, seen, final, isAccepted}
 
@@ -20,6 +20,15 @@ run-next w k s at = rw (take-take w w (drop at s) (omega arith))
 pub run-skip : {A : Type 0} (w : ℕ) (m : Reading A) (s : List ℕ) (at : ℕ) → run (skip w m) s at ≡ (if leb (at + w) (length s) then run m s (at + w) else refused 1 at)
 unfolding run
 run-skip w m s at = refl
+
+-- a field that is wholly there, and one that is not
+pub field-there : {A : Type 0} (l w : ℕ) (k : List ℕ → Reading A) (s : List ℕ) (at : ℕ) → at + w ≤ length s → run (field l w k) s at ≡ run (k (take l (take w (drop at s)))) s (at + w)
+unfolding run
+field-there l w k s at h = rw (le-leb (at + w) (length s) h)
+
+pub field-missing : {A : Type 0} (l w : ℕ) (k : List ℕ → Reading A) (s : List ℕ) (at : ℕ) → length s < at + w → run (field l w k) s at ≡ refused 1 at
+unfolding run
+field-missing l w k s at h = rw (lt-leb (at + w) (length s) h)
 
 if-then : {A B : Type 0} (b : Bool) (x : Answer B) (y : Answer A) (f : A → ℕ → Answer B) (n p : ℕ) → x ≡ andThen y f → (if b then x else refused n p) ≡ andThen (if b then y else refused n p) f
 unfolding andThen

@@ -6,7 +6,7 @@ use mathlib.Core.Logic.{⊎-elim}
 use mathlib.Core.Bool.{Bool}
 use mathlib.Core.List.{List}
 use native.Mathlib.Omega.{arith}
-use native.Mathlib.Nat.{div-mul-le-self, mul-le-mul-right}
+use native.Mathlib.Nat.{div-lt-iff-lt-mul, div-mul-le-self, mul-le-mul-right}
 use denote.Ref.{now}
 use lib.Dec.{leb}
 use lib.ListN.{length}
@@ -39,8 +39,12 @@ module _ {s : List ℕ} {at t w k : ℕ} (h : Counted s at t w k) where
       let all : k * w ≤ length s - at = rw (h .there) (div-mul-le-self (length s - at) w) in
       omega (arith, mul-le-mul-right w few, all)
 
-  by-count : 0 < scalarWidth t → (big : Bool) (n : ℕ) → passed (run (times n (number (scalarWidth t) big)) s at) ≡ (if leb n k then accepted tt (at + n * w) else refused 1 (at + k * w))
-  by-count wide big n = rw (h .there, h .width) (numbers-passed (scalarWidth t) big s wide n at)
+  -- and each of more is
+  above : 0 < w → (n : ℕ) → k < n → length s - at < n * w
+  above wide n more = div-lt-iff-lt-mul wide .0 (rw (← h .there) more)
+
+  by-bytes : 0 < scalarWidth t → (big : Bool) (n : ℕ) → passed (run (times n (number (scalarWidth t) big)) s at) ≡ (if leb (n * w) (length s - at) then accepted tt (at + n * w) else refused 1 (at + k * w))
+  by-bytes wide big n = rw (h .there, h .width) (numbers-passed (scalarWidth t) big s wide n at)
 
 counted : (c : tie.After-bytes-in) → let a = c .before .before .before .before .before .before .before .before .before .args in Counted (now (a .s)) (a .at) (a .t) (c .bytes-in .result) (c .before .before .numbers-in .result)
 counted c =
@@ -73,7 +77,8 @@ returns-2 c =
     let b = c .before .before in
     let u = b .before .before .before .before .before .before .before .before .before in
     let there : b .before .if2 .passed ≡ b .before .before .numbers-in .result = ⊎-elim (λ x. x .1) (λ x. absurd (omega (arith, x .0 .left, c .if3 .taken))) (b .before .if2 .came) in
-    rw (there, by-count (counted b) (u .pre) (u .args .dialect .big) (u .args .n), lt-leb (u .args .n) (b .before .before .numbers-in .result) (c .if3 .taken))
+    let wide : 0 < b .bytes-in .result = omega (arith, counted b .width, u .pre) in
+    rw (there, by-bytes (counted b) (u .pre) (u .args .dialect .big) (u .args .n), lt-leb _ _ (above (counted b) wide (u .args .n) (c .if3 .taken)))
 
 -- all are there
 returns-3 : tie.Need-returns-3
@@ -81,7 +86,7 @@ returns-3 c =
     let b = c .before .before in
     let u = b .before .before .before .before .before .before .before .before .before in
     let all : b .before .if2 .passed ≡ u .args .n = ⊎-elim (λ x. absurd (omega (arith, x .0 .taken, c .if3 .left))) (λ x. x .1) (b .before .if2 .came) in
-    rw (all, by-count (counted b) (u .pre) (u .args .dialect .big) (u .args .n), le-leb (u .args .n) (b .before .before .numbers-in .result) (c .if3 .left))
+    rw (all, by-bytes (counted b) (u .pre) (u .args .dialect .big) (u .args .n), le-leb _ _ (within (counted b) (u .args .n) (c .if3 .left)))
 
 pub pass-scalars-spec : {M : Type 1} → statement M
 pass-scalars-spec =
