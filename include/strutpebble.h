@@ -62,7 +62,12 @@ enum {
     SP_KIND_NOT_WRITTEN = 35,     /* a kind of tensor that is not written */
     SP_OFFSET_OVERFLOW = 36,      /* a tensor's end, or its padded end, above 2^64 - 1 */
     SP_COUNT_OVERFLOW = 37,       /* version 1, and a count above 2^32 - 1 */
-    SP_OUTPUT_TOO_SHORT = 38      /* the output ends before the start of the data */
+    SP_OUTPUT_TOO_SHORT = 38,     /* the output ends before the start of the data */
+
+    /* Of the replay of a trace. */
+    SP_BAD_TRACE = 43,            /* another version, a record of another length, or a cut one */
+    SP_TRACE_OVERFLOW = 44,       /* a fetch that ends above 2^64 - 1 */
+    SP_NO_ANSWER_ROWS = 45        /* fewer answers than tensors */
 };
 
 /* What a question answers beside refusals. */
@@ -104,6 +109,9 @@ static inline const char *sp_reason(uint64_t number) {
     case SP_OFFSET_OVERFLOW: return "the tensor's data, padded, would end above 2^64 - 1";
     case SP_COUNT_OVERFLOW: return "version 1 can't count so many tensors or entries";
     case SP_OUTPUT_TOO_SHORT: return "the output is too short for the header and its padding";
+    case SP_BAD_TRACE: return "the trace is not well formed";
+    case SP_TRACE_OVERFLOW: return "a fetch of the trace ends above 2^64 - 1";
+    case SP_NO_ANSWER_ROWS: return "there are more tensors than answers for them";
     case SP_ABSENT: return "no entry has this key";
     case SP_OTHER_TYPE: return "the value of this key is not a string";
     case SP_UNKNOWN_FILE_TYPE: return "the file's type is unknown";
@@ -179,7 +187,7 @@ SP_ASSERT_(sizeof(sp_tensor) == 8 * SP_TENSOR_WORDS, "a tensor is its words");
 /* Every function but sp_version and sp_reason returns 0 or one of the numbers above, and writes all
  * SP_ANSWER_WORDS words of answer: its own answer's where it returns 0; where it refuses, the
  * refusal's place and zeros after it; else zeros. Words that an answer does not name are 0. Only
- * answer, sp_read's two tables and sp_write's output are written to.
+ * answer, sp_read's two tables, sp_write's output and sp_replay_fetches's answers are written to.
  *
  * A pointer may be null where its length or count is 0; answer is never null. What is written to
  * overlaps nothing else that is lent. */
@@ -271,6 +279,28 @@ uint64_t sp_file_type(const uint8_t *prefix, size_t prefix_len, uint64_t answer[
  * in answer[SP_ANSWER_TENSOR]. */
 uint64_t sp_check_ranges(const sp_tensor *tensors, size_t tensor_rows, uint64_t data_start,
                          uint64_t file_length, uint64_t answer[SP_ANSWER_WORDS]);
+
+/* The answer for a tensor that a trace never completes. */
+#define SP_NEVER UINT64_MAX
+
+/* Replays a trace of fetches of a file of file_length bytes: for each of tensor_rows tensors, the
+ * first record after which all its bytes, size of them from data_start + offset on, were delivered.
+ *
+ * A trace is the byte 1 and then records, each of 20 bytes: the number 16 (4 bytes), a place in the
+ * file (8 bytes) and how many bytes were fetched from there on (8 bytes). Every number in it is
+ * big-endian. What a record fetches past the end of the file delivers nothing, and a byte that is
+ * delivered twice counts once. The rows may be anyone's; of sp_read's table hand in no more than
+ * its count.
+ *
+ * Returns 0 and fills an answer for each tensor: the record, counted from 1; or 0 for a size of 0;
+ * or SP_NEVER where some byte was not delivered, as where it is after the end of the file. Answers
+ * after those are left as they are. Otherwise returns the refusal's number and leaves answers as it
+ * is; the place is that of the bad record in the trace, 0 for the version, and 0 for
+ * SP_NO_ANSWER_ROWS. */
+uint64_t sp_replay_fetches(const sp_tensor *tensors, size_t tensor_rows, uint64_t data_start,
+                           uint64_t file_length, const uint8_t *trace, size_t trace_len,
+                           uint64_t *answers, size_t answer_rows,
+                           uint64_t answer[SP_ANSWER_WORDS]);
 
 /* Writes the header that a record sheet of sheet_len bytes describes at the front of out_len bytes,
  * and zeros up to the start of its data.

@@ -65,6 +65,9 @@ static void null_is_no_bytes(void) {
     CHECK(sp_model_family(NULL, 0, answer) == SP_CUT_OFF);
     CHECK(sp_file_type(NULL, 0, answer) == SP_CUT_OFF);
     CHECK(sp_check_ranges(NULL, 0, 1, 0, answer) == 0);
+    CHECK(sp_replay_fetches(NULL, 0, 1, 0, NULL, 0, NULL, 0, answer) == SP_BAD_TRACE);
+    CHECK(answer[0] == 0);
+    CHECK(sp_replay_fetches(NULL, 0, 1, 0, empty_sheet, 1, NULL, 0, answer) == 0);
     CHECK(sp_write(NULL, 0, 3, 0, 32, NULL, 0, answer) == SP_BAD_SHEET && answer[0] == 0);
     CHECK(sp_write(empty_sheet, 1, 3, 0, 32, NULL, 0, answer) == SP_OUTPUT_TOO_SHORT);
     CHECK(sp_write(empty_sheet, 1, 3, 0, 32, file, sizeof file, answer) == 0);
@@ -416,11 +419,100 @@ static void arrays_too_long(void) {
     }
 }
 
+/* The bytes of a trace so far. */
+typedef struct trace {
+    uint8_t bytes[256];
+    size_t length;
+} trace;
+
+static void append(trace *to, unsigned width, uint64_t value) {
+    for (unsigned i = 0; i < width; i++)
+        to->bytes[to->length++] = (uint8_t)(value >> 8 * (width - 1 - i));
+}
+
+static void fetch(trace *to, uint64_t place, uint64_t count) {
+    append(to, 4, 16);
+    append(to, 8, place);
+    append(to, 8, count);
+}
+
+/* The tensors a, 20 bytes at 0, b, 6 bytes at 32, and one of no bytes. Their data starts at 96. */
+static const sp_tensor replayed[] = {
+    {32, 1, 0, 1, {5, 1, 1, 1}, 0, 20},
+    {65, 1, 1, 1, {3, 1, 1, 1}, 32, 6},
+    {98, 1, 0, 1, {0, 1, 1, 1}, 64, 0},
+};
+
+/* Replays a trace over them, and sees that the fourth answer, of no tensor, stays. */
+static void check_replay(const trace *of, uint64_t file, uint64_t a, uint64_t b) {
+    uint64_t answers[4] = {7, 7, 7, 7}, answer[SP_ANSWER_WORDS];
+    memset(answer, 0xff, sizeof answer);
+    CHECK(sp_replay_fetches(replayed, 3, 96, file, of->bytes, of->length, answers, 4, answer) == 0);
+    CHECK(answers[0] == a && answers[1] == b && answers[2] == 0 && answers[3] == 7);
+    for (size_t i = 0; i < SP_ANSWER_WORDS; i++)
+        CHECK(answer[i] == 0);
+}
+
+static void replays(void) {
+    trace one = {{1}, 1}, parts = {{1}, 1};
+    check_replay(&one, 134, SP_NEVER, SP_NEVER);
+    fetch(&one, 90, 44);
+    check_replay(&one, 134, 1, 1);
+    check_replay(&one, 133, 1, SP_NEVER);
+    check_replay(&one, UINT64_MAX, 1, 1);
+    fetch(&one, UINT64_MAX, 0);
+    check_replay(&one, 134, 1, 1);
+    /* b backwards; a in three parts, of which the middle comes last, and one of them twice. */
+    for (uint64_t byte = 134; byte-- > 128;)
+        fetch(&parts, byte, 1);
+    check_replay(&parts, 134, SP_NEVER, 6);
+    fetch(&parts, 106, 10);
+    fetch(&parts, 106, 10);
+    fetch(&parts, 96, 5);
+    check_replay(&parts, 134, SP_NEVER, 6);
+    fetch(&parts, 101, 5);
+    check_replay(&parts, 134, 10, 6);
+}
+
+/* A replay that is refused writes the refusal's place and leaves the answers. */
+static void check_no_replay(const trace *of, size_t rows, uint64_t number, uint64_t place) {
+    uint64_t answers[3] = {7, 7, 7}, answer[SP_ANSWER_WORDS];
+    memset(answer, 0xff, sizeof answer);
+    CHECK(sp_replay_fetches(replayed, 3, 96, 134, of->bytes, of->length, answers, rows, answer) ==
+          number);
+    CHECK(answer[SP_ANSWER_PLACE] == place);
+    for (size_t i = 1; i < SP_ANSWER_WORDS; i++)
+        CHECK(answer[i] == 0);
+    CHECK(answers[0] == 7 && answers[1] == 7 && answers[2] == 7);
+}
+
+static void no_replays(void) {
+    trace nothing = {{0}, 0}, other = {{2}, 1}, cut = {{1}, 1}, far;
+    check_no_replay(&nothing, 3, SP_BAD_TRACE, 0);
+    check_no_replay(&other, 3, SP_BAD_TRACE, 0);
+    check_no_replay(&nothing, 2, SP_NO_ANSWER_ROWS, 0);
+    fetch(&cut, 96, 38);
+    far = cut;
+    for (append(&cut, 3, 0); cut.length < 41; append(&cut, 1, cut.length == 24 ? 16 : 0))
+        check_no_replay(&cut, 3, SP_BAD_TRACE, 21);
+    check_replay(&cut, 134, 1, 1);
+    cut.bytes[24] = 17;
+    check_no_replay(&cut, 3, SP_BAD_TRACE, 21);
+    /* The first fault decides. */
+    fetch(&far, UINT64_MAX, 1);
+    check_no_replay(&far, 3, SP_TRACE_OVERFLOW, 21);
+    append(&far, 1, 0);
+    check_no_replay(&far, 3, SP_TRACE_OVERFLOW, 21);
+    far.bytes[4] = 15;
+    check_no_replay(&far, 3, SP_BAD_TRACE, 1);
+    check_no_replay(&far, 0, SP_NO_ANSWER_ROWS, 0);
+}
+
 /* Every number has words of its own, and what is no number has others. */
 static void reasons(void) {
-    static const uint64_t numbers[] = {0,  1,  2,  3,   4,   5,  6,  7,  8,  9,  10, 11, 12,
-                                       13, 14, 15, 16,  17,  18, 20, 30, 31, 32, 33, 34, 35,
-                                       36, 37, 38, 100, 101, 102};
+    static const uint64_t numbers[] = {0,  1,  2,  3,  4,   5,   6,  7,  8,  9,  10, 11, 12,
+                                       13, 14, 15, 16, 17,  18,  20, 30, 31, 32, 33, 34, 35,
+                                       36, 37, 38, 43, 44,  45,  100, 101, 102};
     size_t count = sizeof numbers / sizeof *numbers;
     for (size_t i = 0; i < count; i++) {
         CHECK(strcmp(sp_reason(numbers[i]), sp_reason(999)) != 0);
@@ -454,6 +546,8 @@ int main(void) {
     lists_of_lists();
     arrays_are_four_deep();
     arrays_too_long();
+    replays();
+    no_replays();
     reasons();
     versions_agree();
     return failed;

@@ -1,7 +1,15 @@
 //! `memory INPUT`: what each reader asks of the heap, and how deep its stack goes, as
-//! `allocations, bytes at the peak, bytes of stack` of this project and then of the original.
+//! `allocations, bytes at the peak, bytes of stack` of this project and then of the original. Of an
+//! input with a trace, the same of this project's replay alone.
+
+#[allow(dead_code)]
+#[path = "replay/setup.rs"]
+mod setup;
+#[path = "replay/traces.rs"]
+mod traces;
 
 use bench::{inputs::Plan, original, Tables};
+use setup::Replay;
 use std::alloc::{GlobalAlloc, Layout, System};
 use std::ffi::c_void;
 use std::hint::black_box;
@@ -87,8 +95,16 @@ fn measured(run: &mut dyn FnMut()) -> String {
 }
 
 fn main() {
-    let bytes: &'static [u8] =
-        Plan::named(&std::env::args().nth(1).expect("an input")).bytes().leak();
+    let input = std::env::args().nth(1).expect("an input");
+    if input.contains("records=") {
+        let mut replay = Replay::named(&input);
+        let replayed = measured(&mut || {
+            black_box(black_box(&mut replay).lent());
+        });
+        println!("{replayed}");
+        return;
+    }
+    let bytes: &'static [u8] = Plan::named(&input).bytes().leak();
     let mut tables = Tables::new();
     let ours = measured(&mut || {
         let _ = black_box(tables.read(black_box(bytes)));

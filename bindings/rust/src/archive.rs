@@ -58,6 +58,17 @@ extern "C" {
         length: u64,
         answer: *mut Words,
     ) -> u64;
+    fn sp_replay_fetches(
+        tensors: *const TensorRow,
+        tensor_rows: usize,
+        start: u64,
+        length: u64,
+        trace: *const u8,
+        trace_len: usize,
+        answers: *mut u64,
+        answer_rows: usize,
+        answer: *mut Words,
+    ) -> u64;
     fn sp_write(
         sheet: *const u8,
         sheet_len: usize,
@@ -197,6 +208,36 @@ pub fn check_ranges(tensors: &[TensorRow], start: u64, length: u64) -> Answer {
     (number, words)
 }
 
+/// The answer for a tensor that a trace never completes.
+pub const NEVER: u64 = u64::MAX;
+
+pub fn replay_fetches(
+    tensors: &[TensorRow],
+    start: u64,
+    length: u64,
+    trace: &[u8],
+    answers: &mut [u64],
+) -> Answer {
+    let mut words = [0; 8];
+    // SAFETY: each pointer goes with its own slice's length; the answers are borrowed mutably, so
+    // that they overlap neither the tensors nor the trace, which are only read; the words are this
+    // function's own.
+    let number = unsafe {
+        sp_replay_fetches(
+            tensors.as_ptr(),
+            tensors.len(),
+            start,
+            length,
+            trace.as_ptr(),
+            trace.len(),
+            answers.as_mut_ptr(),
+            answers.len(),
+            &mut words,
+        )
+    };
+    (number, words)
+}
+
 /// Writes in the byte order of a number, `ByteOrder::to_number`.
 pub fn write(sheet: &[u8], version: u32, order: u32, alignment: u64, out: &mut [u8]) -> Answer {
     let mut words = [0; 8];
@@ -275,6 +316,36 @@ mod tests {
         assert_eq!(find_string(A_AND_B, b"k"), answer(100, []));
         assert_eq!(model_family(A_AND_B), answer(100, []));
         assert_eq!(file_type(A_AND_B), answer(102, []));
+    }
+
+    #[test]
+    fn words_of_the_replay() {
+        let mut tensors = [[9; 10]; 2];
+        read(A_AND_B, 3, 39, 3, &mut [], &mut tensors);
+        // The tensor a, then the header, then b.
+        let mut trace = *b"\x01\
+            \0\0\0\x10\0\0\0\0\0\0\0\x60\0\0\0\0\0\0\0\x14\
+            \0\0\0\x10\0\0\0\0\0\0\0\x00\0\0\0\0\0\0\0\x60\
+            \0\0\0\x10\0\0\0\0\0\0\0\x80\0\0\0\0\0\0\0\x06";
+        for (length, wanted) in [(134, [1, 3, 9]), (133, [1, NEVER, 9])] {
+            // What is lent beyond the tensors stays as it is.
+            let mut answers = [9; 3];
+            let said = replay_fetches(&tensors, 96, length, &trace, &mut answers);
+            assert_eq!((said, answers), (answer(0, []), wanted));
+        }
+        // Too few answers are refused before a bad trace.
+        let mut answers = [9; 3];
+        assert_eq!(replay_fetches(&tensors, 96, 134, &[], &mut answers[..1]), answer(45, []));
+        assert_eq!(replay_fetches(&tensors, 96, 134, &[], &mut answers), answer(43, []));
+        assert_eq!(replay_fetches(&tensors, 96, 134, &trace[..60], &mut answers), answer(43, [41]));
+        // The end of the second fetch is 2^64 - 1, and then 2^64.
+        trace[25..33].fill(0xff);
+        trace[40] = 0;
+        let said = replay_fetches(&tensors, 96, 134, &trace, &mut [0; 2]);
+        assert_eq!(said, answer(0, []));
+        trace[40] = 1;
+        assert_eq!(replay_fetches(&tensors, 96, 134, &trace, &mut answers), answer(44, [21]));
+        assert_eq!(answers, [9; 3]);
     }
 
     #[test]

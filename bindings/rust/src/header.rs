@@ -1,11 +1,12 @@
 //! Reading a header, and the header that was read.
 
-use crate::archive::{self, Answer, EntryRow, TensorRow, Words};
+use crate::archive::{self, Answer, EntryRow, TensorRow, Words, NEVER};
 use crate::error::RangeError;
 use crate::front::{ByteOrder, Claim, Dialect};
 use crate::records::{Entries, Entry, Tensor, Tensors};
 use crate::refusal::Refusal;
 use crate::value::Value;
+use alloc::vec;
 use alloc::vec::Vec;
 use core::ops::Range;
 
@@ -248,6 +249,55 @@ impl<'a> Header<'a> {
         match archive::check_ranges(&self.tensors, start, file_length) {
             (0, _) => Ok(()),
             (number, words) => Err(Refusal::of_range_check(number, words[0])),
+        }
+    }
+
+    /// Replays a trace of fetches of a file of so many bytes: for each tensor, in the order of the
+    /// file, the first record after which all its bytes were delivered, counted from 1; `Some(0)`
+    /// for a tensor of size 0; `None` where some byte never was.
+    ///
+    /// A trace is the byte 1 and then records, each of 20 bytes: the number 16 (4 bytes), a place
+    /// in the file (8 bytes) and how many bytes were fetched from there on (8 bytes), all
+    /// big-endian. What a record fetches past the end of the file delivers nothing, so a tensor
+    /// with bytes after that end is never complete. A byte that is delivered twice counts once.
+    ///
+    /// A trace that is not well formed is refused (43), and so is one with a fetch that ends above
+    /// 2^64 - 1 (44): at the start of the first such record, or at 0 for the version. Refusal 45 is
+    /// never given.
+    ///
+    /// ```
+    /// use strutpebble::{Kind, Place, Sheet};
+    ///
+    /// // 20 bytes from 96 on, and 6 bytes from 128 on.
+    /// let file = Sheet::new().tensor("a", Kind::F32, &[5]).tensor("b", Kind::F16, &[3]).to_vec()?;
+    /// let header = strutpebble::read(&file)?;
+    ///
+    /// let mut trace = vec![1];
+    /// trace.extend(16u32.to_be_bytes());
+    /// trace.extend(96u64.to_be_bytes());
+    /// trace.extend(38u64.to_be_bytes());
+    /// assert_eq!(header.replay_fetches(134, &trace)?, [Some(1), Some(1)]);
+    /// // A file that ends one byte sooner lacks a byte of b.
+    /// assert_eq!(header.replay_fetches(133, &trace)?, [Some(1), None]);
+    ///
+    /// // A part of a second record.
+    /// trace.push(0);
+    /// assert_eq!(header.replay_fetches(134, &trace).unwrap_err().place(), Place::Trace(21));
+    /// # Ok::<(), Box<dyn std::error::Error>>(())
+    /// ```
+    pub fn replay_fetches(
+        &self,
+        file_length: u64,
+        trace: &[u8],
+    ) -> Result<Vec<Option<u64>>, Refusal> {
+        let start = self.summary.data_start;
+        let mut answers = vec![NEVER; self.tensors.len()];
+        match archive::replay_fetches(&self.tensors, start, file_length, trace, &mut answers) {
+            (0, _) => {
+                let completed = |record| (record != NEVER).then_some(record);
+                Ok(answers.into_iter().map(completed).collect())
+            }
+            (number, words) => Err(Refusal::of_replay(number, words[0])),
         }
     }
 }

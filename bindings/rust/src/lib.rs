@@ -6,6 +6,9 @@
 //! these bytes: fetch more. Any other answer stays, whatever bytes follow, and may be kept. Names and
 //! strings are parts of the bytes that were given.
 //!
+//! From a trace of which bytes of the file were fetched, [`Header::replay_fetches`] answers after
+//! which fetch each tensor was there whole.
+//!
 //! A [`Sheet`] describes a header to write, and [`Sheet::write`] writes it.
 //!
 //! The items of an array may be arrays, which stand in one another four deep at most, the outermost

@@ -1,9 +1,10 @@
-//! Refusals: why a header is not read or written, and where the reason stands.
+//! Refusals: why a header is not read or written, or a trace not replayed, and where the reason
+//! stands.
 
 use core::error::Error;
 use core::fmt;
 
-/// Why the reader, the range check or the writer refuses.
+/// Why the reader, the range check, the replay or the writer refuses.
 ///
 /// It displays as a short sentence, and [`number`](Reason::number) is its number in the C header and
 /// in the project's docs/REFUSALS.md, which says when it is given and what to do about it.
@@ -70,13 +71,21 @@ pub enum Reason {
     CountOverflow,
     /// 38: the output ends before the start of the data.
     OutputTooShort,
+    /// 43: a trace does not start with the byte 1, or one of its records is cut or says another
+    /// length than 16.
+    BadTrace,
+    /// 44: what a record of a trace fetches ends above 2^64 - 1.
+    TraceOverflow,
+    /// 45: there are more tensors than answers were lent for them.
+    /// [`Header::replay_fetches`](crate::Header::replay_fetches) lends one for each.
+    TooFewAnswers,
     /// A number that this version of the crate does not know.
     Other(u64),
 }
 
 /// Each reason with its number and its words. 13, 14, 15 and 17 are both the reader's and the
 /// writer's, so their words fit a file that is read and a file that is to be written.
-const REASONS: [(Reason, u64, &str); 28] = [
+const REASONS: [(Reason, u64, &str); 31] = [
     (Reason::CutOff, 1, "the header does not end inside these bytes: fetch more"),
     (Reason::OlderFormat, 2, "the file has a format that came before GGUF"),
     (Reason::NotGguf, 3, "this is not a GGUF file"),
@@ -105,6 +114,9 @@ const REASONS: [(Reason, u64, &str); 28] = [
     (Reason::OffsetOverflow, 36, "the tensor's data, padded, would end above 2^64 - 1"),
     (Reason::CountOverflow, 37, "version 1 can't count so many tensors or entries"),
     (Reason::OutputTooShort, 38, "the output is too short for the header and its padding"),
+    (Reason::BadTrace, 43, "the trace is not well formed"),
+    (Reason::TraceOverflow, 44, "a fetch of the trace ends above 2^64 - 1"),
+    (Reason::TooFewAnswers, 45, "there are more tensors than answers for them"),
 ];
 
 impl Reason {
@@ -144,6 +156,8 @@ pub enum Place {
     Prefix(u64),
     /// A byte of the sheet that was to be written, counted from 0.
     Sheet(u64),
+    /// A byte of the trace that was to be replayed, counted from 0.
+    Trace(u64),
     /// A tensor, counted from 0.
     Tensor(u64),
     /// No place: the reason is in the arguments.
@@ -155,19 +169,22 @@ impl fmt::Display for Place {
         match self {
             Place::Prefix(byte) => write!(f, "byte {byte}"),
             Place::Sheet(byte) => write!(f, "byte {byte} of the sheet"),
+            Place::Trace(byte) => write!(f, "byte {byte} of the trace"),
             Place::Tensor(index) => write!(f, "tensor {index}"),
             Place::Nowhere => f.write_str("no place"),
         }
     }
 }
 
-/// A refusal: why the reader, the range check or the writer gives no answer, and where the reason
-/// stands.
+/// A refusal: why the reader, the range check, the replay or the writer gives no answer, and where
+/// the reason stands.
 ///
 /// | given by | place |
 /// |---|---|
 /// | the reader and every question about a prefix | [`Place::Prefix`] |
 /// | the range check | [`Place::Tensor`] |
+/// | the replay, 43 and 44 | [`Place::Trace`] |
+/// | the replay, 45 | [`Place::Nowhere`] |
 /// | the writer, 31 | [`Place::Sheet`] |
 /// | the writer, 13, 14, 15, 17, 35 and 36 | [`Place::Tensor`] |
 /// | the writer, any other | [`Place::Nowhere`] |
@@ -199,6 +216,15 @@ impl Refusal {
     /// A refusal of the range check.
     pub(crate) fn of_range_check(number: u64, tensor: u64) -> Refusal {
         Refusal { reason: Reason::of(number), place: Place::Tensor(tensor) }
+    }
+
+    /// A refusal of the replay.
+    pub(crate) fn of_replay(number: u64, place: u64) -> Refusal {
+        let place = match number {
+            45 => Place::Nowhere,
+            _ => Place::Trace(place),
+        };
+        Refusal { reason: Reason::of(number), place }
     }
 
     /// A refusal of the writer.
@@ -253,7 +279,7 @@ mod tests {
 
     #[test]
     fn every_number_has_its_own_reason_and_words() {
-        let numbers = (1..=18).chain([20]).chain(30..=38);
+        let numbers = (1..=18).chain([20]).chain(30..=38).chain(43..=45);
         assert!(numbers.eq(REASONS.iter().map(|(_, number, _)| *number)));
         let words: BTreeSet<_> = REASONS.iter().map(|(reason, _, _)| reason.to_string()).collect();
         assert_eq!(words.len(), REASONS.len());
@@ -265,7 +291,7 @@ mod tests {
 
     #[test]
     fn a_number_that_is_not_known() {
-        for number in [0, 19, 21, 29, 39, 100, u64::MAX] {
+        for number in [0, 19, 21, 29, 39, 42, 46, 100, u64::MAX] {
             let refusal = Refusal::of_reader(number, 7);
             assert_eq!((refusal.reason(), refusal.number()), (Reason::Other(number), number));
             assert!(refusal.to_string().contains("does not know"));
@@ -287,6 +313,12 @@ mod tests {
             assert!(text.starts_with(&alloc::format!("refused {number}{}:", wanted.1)), "{text}");
             assert_eq!(Refusal::of_reader(number, 5).place(), Place::Prefix(5));
             assert_eq!(Refusal::of_range_check(number, 5).place(), Place::Tensor(5));
+            let in_trace = if number == 45 { Place::Nowhere } else { Place::Trace(5) };
+            assert_eq!(Refusal::of_replay(number, 5).place(), in_trace);
         }
+        let bad = "refused 43 at byte 5 of the trace: the trace is not well formed";
+        assert_eq!(Refusal::of_replay(43, 5).to_string(), bad);
+        let few = "refused 45: there are more tensors than answers for them";
+        assert_eq!(Refusal::of_replay(45, 0).to_string(), few);
     }
 }

@@ -21,7 +21,7 @@ use Rattle.header.proofs.Counted.{Counted, counted}
 use Rattle.listing.specs.Text.{refusalLine, linesOf, textOf, listingIn}
 
 -- the first rows of a table that was filled
-first-rows : {A : Type 0} (row : A → List ℕ) (l : List A) (n : ℕ) (old : List (List ℕ)) → length l ≡ n → midOf 0 (n - 0) (map row l ++ drop (length l) old) ≡ map row l
+pub first-rows : {A B : Type 0} (row : A → B) (l : List A) (n : ℕ) (old : List B) → length l ≡ n → midOf 0 (n - 0) (map row l ++ drop (length l) old) ≡ map row l
 first-rows row l n old e = rw (sub-zero n) (take-at (map row l) (drop (length l) old) n (length-map l row ∙ e))
 
 module _ (s : List ℕ) (es ts : List (List ℕ)) where
@@ -33,13 +33,13 @@ module _ (s : List ℕ) (es ts : List (List ℕ)) where
   Told h q = accepted h q ≡ seen (λ w. w .head) (readerRun full 3 es ts s)
 
   -- what else was read with it
-  record With (h : Header) (q : ℕ) : Type 0 where
-    whole : FullHeader
-    read : accepted whole q ≡ readerRun full 3 es ts s
-    same : h ≡ whole .head
-    counted : Counted rooms whole
+  pub record With (h : Header) (q : ℕ) : Type 0 where
+    pub whole : FullHeader
+    pub read : accepted whole q ≡ readerRun full 3 es ts s
+    pub same : h ≡ whole .head
+    pub counted : Counted rooms whole
 
-  whole-of : {h : Header} {q : ℕ} → Told h q → With h q
+  pub whole-of : {h : Header} {q : ℕ} → Told h q → With h q
   whole-of {q = q} e =
       let w = seen-accepted _ _ _ _ e in
       record { whole = w .0; read = w .1; same = w .2; counted = counted full 3 es ts s (w .1) }

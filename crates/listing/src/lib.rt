@@ -151,7 +151,7 @@ fn put_tensor(out: &mut [u8], s: &[u8], row: TensorRow) -> usize
 }
 
 // The line of a refusal.
-fn put_refusal(out: &mut [u8], why: u64, place: usize) -> usize
+pub fn put_refusal(out: &mut [u8], why: u64, place: usize) -> usize
     ensures { λ r. ⌜ Put (text.refusalLine why place) (now (out .entry)) (now (out .exit)) r ⌝ }
 {
     let a = put_labelled(out, b"refused ", why);

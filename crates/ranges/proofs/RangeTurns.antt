@@ -1,22 +1,20 @@
 -- How the check goes from one row to the next, and when two tests answer alike. Assumes nothing.
 use Prim.Native.Nat.{ℕ, suc, _≤_, _<_}
-use mathlib.Core.Path.{_≡_, refl, sym, _∙_}
-use mathlib.Core.Bool.{Bool, true, false}
+use mathlib.Core.Path.{_≡_, sym, _∙_}
+use mathlib.Core.Bool.{true, false}
 use mathlib.Core.List.{List, []}
 use lib.Dec.{leb}
 use lib.ListN.{length, drop, getD, drop-of-length-le}
 use lib.Seq.{drop-cons}
-use borrow.Author.Tests.{le-leb, lt-leb, leb-true, leb-false}
+use borrow.Author.Tests.{le-leb, lt-leb}
+use Rattle.reading.proofs.Cases.{split}
 use Rattle.ranges.specs.Ranges.{endOf, checkFrom}
 use Rattle.ranges.specs.declared.RangeCheck.the-variants.{Inside, Refused}
 
-alike-by : (t : Bool) (a b c d : ℕ) → leb a b ≡ t → (a ≤ b → c ≤ d) → (b < a → d < c) → leb a b ≡ leb c d
-alike-by true a b c d e then-so otherwise = e ∙ sym (le-leb c d (then-so (leb-true a b e)))
-alike-by false a b c d e then-so otherwise = e ∙ sym (lt-leb c d (otherwise (leb-false a b e)))
-
 -- two tests answer alike where each outcome of the one gives that of the other
 pub alike : (a b c d : ℕ) → (a ≤ b → c ≤ d) → (b < a → d < c) → leb a b ≡ leb c d
-alike a b c d then-so otherwise = alike-by (leb a b) a b c d refl then-so otherwise
+alike a b c d then-so otherwise =
+    split b a (λ h. lt-leb a b h ∙ sym (lt-leb c d (otherwise h))) (λ h. le-leb a b h ∙ sym (le-leb c d (then-so h)))
 
 module _ (start file : ℕ) (rows : List (List ℕ)) (i : ℕ) where
   -- past the last row nothing is refused

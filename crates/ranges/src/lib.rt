@@ -16,7 +16,7 @@ pub enum RangeCheck {
 
 // Whether data at an offset from start, of so many bytes, ends inside a file. Only differences are
 // made, which cannot wrap.
-fn ends_inside(start: u64, offset: u64, size: u64, file: u64) -> bool
+pub fn ends_inside(start: u64, offset: u64, size: u64, file: u64) -> bool
     ensures { λ r. ⌜ r ≡ leb (start + offset + size) file ⌝ }
 {
     if file < start {

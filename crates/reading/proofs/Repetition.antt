@@ -39,7 +39,7 @@ got-cons a (accepted l p) h = refl
 got-cons a (refused n p) h = let z : _≡_ {A = ℕ} 0 1 = cc in absurd (omega arith)
 
 -- a row that is stored, and the rows that are left
-row-cons : {B : Type 0} (table : List B) (i : ℕ) (b : B) (bs : List B) (k : ℕ) → i < length table
+pub row-cons : {B : Type 0} (table : List B) (i : ℕ) (b : B) (bs : List B) (k : ℕ) → i < length table
     → take i table ++ ((b ∷ bs) ++ drop (suc k) (drop i table)) ≡ take (i + 1) (set table i b) ++ (bs ++ drop k (drop (i + 1) (set table i b)))
 row-cons table i b bs k h =
     let e : i + suc k ≡ suc i + k = omega arith in
@@ -147,7 +147,7 @@ unfolding seen
 seen-parts g (accepted a p) {b} {q} e = let k : q ≡ p = cc in (a, ap (accepted a) k, cc)
 seen-parts g (refused n p) e = let z : _≡_ {A = ℕ} 0 1 = cc in absurd (omega arith)
 
-seen-none : {A B : Type 0} (g : A → B) (r : Answer A) {n p : ℕ} → refused n p ≡ seen g r → refused n p ≡ r
+pub seen-none : {A B : Type 0} (g : A → B) (r : Answer A) {n p : ℕ} → refused n p ≡ seen g r → refused n p ≡ r
 unfolding seen
 seen-none g (accepted a q) e = let z : _≡_ {A = ℕ} 0 1 = cc in absurd (omega arith)
 seen-none g (refused n p) e = cc

@@ -12,15 +12,17 @@ use start::Rooms;
 use values::Dialect;
 ghost use lib.ListN.{length};
 ghost use mathlib.Core.Path.{_≡_};
+ghost use Rattle.fetches.specs.Replay.{replayed, replyTo};
 ghost use Rattle.header.specs.Answers.{readerRun};
 ghost use Rattle.lookup.specs.Questions.{architectureKey, fileTypeIn, fileTypeKey, lookup};
 ghost use Rattle.plan.specs.Plan.{planFor};
 ghost use Rattle.ranges.specs.Ranges.{checkFrom};
+ghost use Rattle.reading.specs.Back.{same};
 ghost use Rattle.reading.specs.Each.{filled};
 ghost use Rattle.reading.specs.Reading.{seen};
 ghost use Rattle.tensors.specs.Rows.{tensorRow};
 ghost use Rattle.values.specs.Rows.{entryRow};
-ghost use Rattle.words.specs.Words.{dialectOf, entryNumber, entryWords, measured, numberOf, rangeNumber, rangeWords, stringNumber, stringWords, typeNumber, typeWords, wordsOf, writtenNumber, writtenWords};
+ghost use Rattle.words.specs.Words.{dialectOf, entryNumber, entryWords, measured, numberOf, rangeNumber, rangeWords, replayNumber, replayWords, stringNumber, stringWords, typeNumber, typeWords, wordsOf, writtenNumber, writtenWords};
 ghost use Rattle.writer.specs.Output.{headerFor, leftBy, writtenOf};
 
 // The library's version as one number: 1000000 times its first part, 1000 times its second, and its
@@ -95,6 +97,27 @@ pub extern "C" fn sp_check_ranges(
     let check = ranges::check_ranges(tensors, data_start, file_length);
     *answer = words::range_words(check);
     words::range_number(check)
+}
+
+// Replays a trace of fetches: 0 with the first record in answers, for each tensor row, after which
+// all its bytes have been delivered, or fetches::NEVER; or the refusal's number with its place, and
+// then answers is as it was.
+#[no_mangle]
+pub extern "C" fn sp_replay_fetches(
+    tensors: &[TensorRow],
+    data_start: u64,
+    file_length: u64,
+    trace: &[u8],
+    answers: &mut [u64],
+    answer: &mut [u64; 8],
+) -> u64
+    ensures { λ r. ⌜ r ≡ replayNumber (replyTo (replayed (now (tensors .entry)) «data_start» «file_length» (now (trace .entry)) (length (now (answers .entry))))) ⌝ }
+    ensures { λ r. ⌜ now (answer .exit) ≡ replayWords (replyTo (replayed (now (tensors .entry)) «data_start» «file_length» (now (trace .entry)) (length (now (answers .entry))))) ⌝ }
+    ensures { λ r. ⌜ now (answers .exit) ≡ filled same (now (answers .entry)) (replayed (now (tensors .entry)) «data_start» «file_length» (now (trace .entry)) (length (now (answers .entry)))) ⌝ }
+{
+    let replay = fetches::replay_fetches(tensors, data_start, file_length, trace, answers);
+    *answer = words::replay_words(replay);
+    words::replay_number(replay)
 }
 
 // Looks a key up: 0 with the row of its last entry in answer, or 100 where there is none, or the

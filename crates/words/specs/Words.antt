@@ -15,6 +15,8 @@ use Rattle.header.specs.declared.Header.{Header}
 use Rattle.header.specs.Format.{header}
 use Rattle.ranges.specs.declared.RangeCheck.{RangeCheck}
 use Rattle.ranges.specs.declared.RangeCheck.the-variants.{Inside, Refused as Past}
+use Rattle.fetches.specs.declared.Replay.{Replay}
+use Rattle.fetches.specs.declared.Replay.the-variants.{Answered, Refused as NotReplayed}
 use Rattle.lookup.specs.declared.Lookup.{Lookup}
 use Rattle.lookup.specs.declared.Lookup.the-variants.{Found, Absent, Refused}
 use Rattle.lookup.specs.declared.FileTypeRead.{FileTypeRead}
@@ -114,3 +116,13 @@ writtenNumber (NotWritten n p) = n
 abbrev pub writtenWords : HeaderWritten → List ℕ
 writtenWords (Written end start) = end ∷ start ∷ 0 ∷ 0 ∷ 0 ∷ 0 ∷ 0 ∷ 0 ∷ []
 writtenWords (NotWritten n p) = oneWord p
+
+-- 0 where a trace was replayed, and else the refusal's number
+abbrev pub replayNumber : Replay → ℕ
+replayNumber Answered = 0
+replayNumber (NotReplayed n p) = n
+
+-- zeros, since the answers are in a table; of a refusal its place
+abbrev pub replayWords : Replay → List ℕ
+replayWords Answered = oneWord 0
+replayWords (NotReplayed n p) = oneWord p

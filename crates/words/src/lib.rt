@@ -1,4 +1,5 @@
 // The answers of the exported functions as numbers: one that is returned, and eight words.
+use fetches::Replay;
 use header::Header;
 use header::HeaderRead;
 use lookup::FileTypeRead;
@@ -162,5 +163,25 @@ pub fn written_words(written: HeaderWritten) -> [u64; 8]
     match written {
         HeaderWritten::Refused { why: _, place } => one_word(place as u64),
         HeaderWritten::Written { end, start } => [end as u64, start as u64, 0, 0, 0, 0, 0, 0],
+    }
+}
+
+// The number of a replay's answer.
+pub fn replay_number(replay: Replay) -> u64
+    ensures { λ r. ⌜ r ≡ words.replayNumber replay ⌝ }
+{
+    match replay {
+        Replay::Answered => 0,
+        Replay::Refused { why, place: _ } => why,
+    }
+}
+
+// The words of a replay's answer.
+pub fn replay_words(replay: Replay) -> [u64; 8]
+    ensures { λ r. ⌜ r ≡ words.replayWords replay ⌝ }
+{
+    match replay {
+        Replay::Answered => one_word(0),
+        Replay::Refused { why: _, place } => one_word(place as u64),
     }
 }

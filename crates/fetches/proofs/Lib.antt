@@ -1,0 +1,9 @@
+pub mod Records
+pub mod Meaning
+pub mod Steps
+pub mod Sweeps
+pub mod Fills
+pub mod Longer
+pub mod Tables
+pub mod RefusalsListed
+pub mod Examples
