@@ -2,7 +2,7 @@
 -- nothing.
 use Prim.Native.Nat.{ℕ, _+_, _*_, _≤_}
 use mathlib.Core.Path.{_≡_, refl, sym, ap, subst, _∙_, fun-ext}
-use mathlib.Core.List.{List, [], _∷_, _++_, map, append-nil}
+use mathlib.Core.List.{List, [], _∷_, _++_, map, map-id, append-nil}
 use mathlib.Core.Bool.{Bool, true}
 use native.Mathlib.Omega.{arith}
 use native.Mathlib.Nat.{add-assoc, add-zero, suc-mul}
@@ -56,10 +56,6 @@ seen-other : {A C : Type 0} (view : A → C) (r : Answer A) {a : A} {q : ℕ} �
 unfolding seen
 seen-other view (accepted b p) e = cc
 seen-other view (refused n p) e = let w : _≡_ {A = ℕ} 0 1 = cc in absurd (omega arith)
-
-map-same : {A : Type 0} (l : List A) → map same l ≡ l
-map-same [] = refl
-map-same (a ∷ l) = ap (λ r. a ∷ r) (map-same l)
 
 module _ {s : List ℕ} where
   -- one part and then the next, which is given something that shows what the first part says
@@ -153,7 +149,7 @@ module _ {s : List ℕ} where
 
   -- a list of items of which nothing is hidden
   pub exact-list : {A : Type 0} {m : Reading (List A)} {p : ℕ} {l : List ℕ} {cs : List A} → Back s (map same) m p l cs → Back s same m p l cs
-  exact-list {m = m} {p} {l} {cs} b = subst (λ v. Back s v m p l cs) (fun-ext map-same) b
+  exact-list {m = m} {p} {l} {cs} b = subst (λ v. Back s v m p l cs) (fun-ext map-id) b
 
   -- what stands at a place is what a view finds that reads it again
   pub items-at : {A C : Type 0} {view : A → C} {p : ℕ} {l : List ℕ} {cs : List C} (m : Reading A) (n : ℕ) → Back s (map view) (times n m) p l cs → Stands s p l → itemsAt view m n s p ≡ cs

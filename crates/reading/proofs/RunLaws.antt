@@ -75,6 +75,12 @@ unfolding seen
 final-seen view (accepted a q) = refl
 final-seen view (refused n p) = refl
 
+-- and is accepted exactly where the answer is
+pub accepted-seen : {A C : Type 0} (view : A → C) (r : Answer A) → isAccepted (seen view r) ≡ isAccepted r
+unfolding seen
+accepted-seen view (accepted a q) = refl
+accepted-seen view (refused n p) = refl
+
 pub final-run : {A C : Type 0} (view : A → C) (r : Answer A) → T (final (seen view r)) → T (final r)
 final-run view r h = subst T (final-seen view r) h
 
