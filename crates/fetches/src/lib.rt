@@ -7,6 +7,8 @@
 // to the first record, but to the first that may still deliver something, and at most once for each
 // record that ends inside the tensor. So T tensors that don't overlap take at most (T + R) * R
 // looks at R records.
+#![tactic(auto)]
+
 ghost use Rattle.std.specs.Prelude.{◌≡◌, true, ℕ, ◌+◌, ◌-◌, ◌≤◌, ◌<◌, ◌^◌, max, length};
 ghost use Rattle.reading.specs.Back.{got, same};
 ghost use Rattle.reading.specs.Each.{filled};
@@ -22,14 +24,14 @@ use rows::{OFFSET, SIZE, TensorRow};
 pub const NEVER: u64 = GREATEST;
 
 // The answers are in the table; or a refusal's number and place.
-#[derive(Drop)]
+#[derive(Clone, Copy)]
 pub enum Replay {
     Answered,
     Refused { why: u64, place: usize },
 }
 
 // What a record of a trace fetched: so many bytes of the file, from an offset on.
-#[derive(Drop)]
+#[derive(Clone, Copy)]
 pub struct Fetch {
     pub offset: u64,
     pub count: u64,
@@ -39,7 +41,7 @@ pub struct Fetch {
 // `from`, and fewer don't deliver the whole tensor. The records before `next` deliver nothing
 // between `from` and `gap`, and everything between `gap` and `reach`. Those before `settled`
 // deliver nothing of the tensor from `from` on.
-#[derive(Drop)]
+#[derive(Clone, Copy)]
 pub struct Sweep {
     pub next: usize,
     pub settled: usize,

@@ -3,6 +3,8 @@
 //
 // `number_at` reads every width, and `put_number` writes every width, in either order. With a known
 // width and order the sums of bytes that it is made of compile to one load (and a swap).
+#![tactic(auto)]
+
 ghost use Rattle.std.specs.Prelude.{◌+◌, ◌/◌, ◌<◌, ◌^◌, ◌≤◌, drop, length, replicate, take, false, true, [], ◌∷◌, ◌≡◌};
 ghost use Rattle.fields.specs.Bytes.{Wrote, bytes_of};
 ghost use Rattle.fields.specs.Order.{before};
@@ -13,7 +15,7 @@ ghost use Rattle.reading.specs.Reading.{run};
 pub const GREATEST: u64 = 18446744073709551615;
 
 // The widths that a number has.
-#[derive(Drop)]
+#[derive(Clone, Copy)]
 pub enum Width {
     One,
     Two,
@@ -22,7 +24,7 @@ pub enum Width {
 }
 
 // A number that was read, and the place after it; or a refusal's number and place.
-#[derive(Drop)]
+#[derive(Clone, Copy)]
 pub enum Number {
     Value { value: u64, next: usize },
     Refused { why: u64, place: usize },

@@ -5,6 +5,8 @@
 // The text is `fetch_listing::list_fetches`'s, whose contract fixes each byte. Up to 64 KiB of the
 // file are looked at, and the buffer holds the longest text of them: all bytes as names, 22 more
 // for each of 512 rows, and the first line. No well-formed trace is as long as the buffer for one.
+#![tactic(auto)]
+
 ghost use Rattle.std.specs.Prelude.{length, ◌≡◌};
 
 use libc::{STDERR_FILENO, STDOUT_FILENO};

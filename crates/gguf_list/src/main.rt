@@ -3,6 +3,8 @@
 //
 // The text is `listing::list`'s, whose contract fixes each byte. The buffer holds the longest one:
 // 64 KiB of names, at most 160 other bytes for each of 1024 rows, and the first line.
+#![tactic(auto)]
+
 use libc::{STDERR_FILENO, STDIN_FILENO, STDOUT_FILENO};
 use rows::{ENTRY_WORDS, TENSOR_WORDS};
 

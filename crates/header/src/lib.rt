@@ -4,6 +4,8 @@
 // they were. Nothing is allocated. The rows of a short list of entries are kept meanwhile, so that
 // it is read once; a longer one is read twice. Tensors are read twice, and the second time nothing
 // is tested. `measure` checks a header and fills nothing.
+#![tactic(auto)]
+
 ghost use Rattle.std.specs.Prelude.{◌+◌, ◌<◌, ◌≤◌, drop, length, take, true, ◌++◌, ◌≡◌};
 ghost use Rattle.fields.specs.Value.{as_number};
 ghost use Rattle.header.specs.Answers.{as_header, reader_outcome, CameTo};
@@ -31,7 +33,7 @@ const KEPT: usize = 64;
 
 // What a header says of itself. Where its numbers are big-endian, its magic may be turned round too.
 // The counts are the file's own; its data begins at start.
-#[derive(Drop)]
+#[derive(Clone, Copy)]
 pub struct Header {
     pub version: u64,
     pub big: bool,
@@ -43,7 +45,7 @@ pub struct Header {
     pub start: u64,
 }
 
-#[derive(Drop)]
+#[derive(Clone, Copy)]
 pub enum HeaderRead {
     Found { header: Header },
     Refused { why: u64, place: usize },

@@ -1,4 +1,6 @@
 // The keys of a header's entries in byte order, each once: which entry row comes next.
+#![tactic(auto)]
+
 ghost use Rattle.std.specs.Prelude.{◌≡◌};
 ghost use Rattle.values.specs.Contents.{inside_of};
 ghost use Rattle.key_order.specs.Order as order;
@@ -7,14 +9,14 @@ use rows::{EntryRow, KEY_LENGTH, KEY_PLACE};
 use values::Span;
 
 // Where a walk over the keys stands: before the first, or after that of an entry row.
-#[derive(Drop)]
+#[derive(Clone, Copy)]
 pub enum LastKey {
     Start,
     After { row: usize },
 }
 
 // The entry row whose key comes next, or the end.
-#[derive(Drop)]
+#[derive(Clone, Copy)]
 pub enum NextKey {
     At { row: usize },
     Done,

@@ -1,4 +1,6 @@
 // The kinds of tensor data, and the size of a tensor.
+#![tactic(auto)]
+
 ghost use Rattle.std.specs.Prelude.{◌≡◌, true, ◌*◌, ◌≤◌, leb};
 ghost use Rattle.reading.specs.Choice.{if◌then◌else◌};
 ghost use Rattle.kinds.specs.Table.{block, block_of, known_kind, written_kind};
@@ -9,21 +11,21 @@ use fields::GREATEST;
 
 // How many numbers a block of a kind holds, and how many bytes it takes. A block of no numbers:
 // there is no such kind.
-#[derive(Drop)]
+#[derive(Clone, Copy)]
 pub struct Block {
     pub numbers: u64,
     pub bytes: u64,
 }
 
 // A product that fits 64 bits, or one that does not.
-#[derive(Drop)]
+#[derive(Clone, Copy)]
 pub enum Bounded {
     Fits { value: u64 },
     Over,
 }
 
 // A tensor's count of numbers and its size in bytes, or the refusal: 11, 17, 13 or 14.
-#[derive(Drop)]
+#[derive(Clone, Copy)]
 pub enum Measure {
     Bytes { product: u64, size: u64 },
     Refused { why: u64 },

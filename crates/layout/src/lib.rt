@@ -1,4 +1,6 @@
 // Where the data of tensors goes: offsets that are multiples of an alignment.
+#![tactic(auto)]
+
 ghost use Rattle.std.specs.Prelude.{◌≡◌};
 ghost use Rattle.layout.specs.Padding.{padded_of};
 ghost use Rattle.layout.specs.Layout.{place_of};
@@ -8,7 +10,7 @@ use kinds::{Bounded, Measure};
 
 // What is laid so far: the sum of the tensors' counts of numbers, and the offset of the next
 // tensor, which is a multiple of the alignment.
-#[derive(Drop)]
+#[derive(Clone, Copy)]
 pub struct Laid {
     pub total: u64,
     pub next: u64,
@@ -16,7 +18,7 @@ pub struct Laid {
 
 // A tensor's offset and size with what is laid then, or the refusal: 35, 17, 13, 14, 15 or
 // 36.
-#[derive(Drop)]
+#[derive(Clone, Copy)]
 pub enum Placed {
     At { offset: u64, size: u64, laid: Laid },
     Refused { why: u64 },

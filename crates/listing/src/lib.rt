@@ -3,6 +3,8 @@
 //
 // Every writer here puts its text at the front of what it is lent, as much of it as there is room
 // for, and answers how many bytes that is (crates/text_out).
+#![tactic(auto)]
+
 ghost use Rattle.std.specs.Prelude.{◌≡◌, length};
 ghost use Rattle.reading.specs.Back.{bytes_of_all};
 ghost use Rattle.reading.specs.Each.{filled};

@@ -5,6 +5,8 @@
 // that neither is any reader's answer (data/README.md). Each refusal that a listing can give is
 // there. 5 and 12 can't be given, since the ceilings are the whole format's, nor can 18, which no
 // prefix reaches.
+#![tactic(auto)]
+
 use libc::STDOUT_FILENO;
 use rows::{ENTRY_WORDS, TENSOR_WORDS};
 

@@ -4,6 +4,8 @@
 // Each takes every version and every kind of the format, and any count of records. The question for
 // a tensor reads as far as that tensor. Any other reads the whole header, so that a bad tensor
 // refuses the lookup of a good key. A string comes back as the part of the prefix that holds it.
+#![tactic(auto)]
+
 ghost use Rattle.std.specs.Prelude.{◌≡◌, true, ◌+◌, ◌≤◌, length};
 ghost use Rattle.reading.specs.Reading.{run, is_accepted};
 ghost use Rattle.reading.specs.Each.{times, fold};
@@ -24,13 +26,13 @@ use tensors::{Tensor, TensorRead};
 use values::{Dialect, Entry, EntryRead, Span, Value};
 
 // What was found of a key so far.
-#[derive(Drop)]
+#[derive(Clone, Copy)]
 pub enum Sought {
     Present { entry: Entry },
     Missing,
 }
 
-#[derive(Drop)]
+#[derive(Clone, Copy)]
 pub enum Lookup {
     Found { entry: Entry },
     Absent,
@@ -38,14 +40,14 @@ pub enum Lookup {
 }
 
 // A tensor by its name, and the number of tensors that were passed: up to that one, or all.
-#[derive(Drop)]
+#[derive(Clone, Copy)]
 pub enum TensorLookup {
     Found { tensor: Tensor, passed: u64 },
     Absent { passed: u64 },
     Refused { why: u64, place: usize },
 }
 
-#[derive(Drop)]
+#[derive(Clone, Copy)]
 pub enum FileTypeRead {
     Known { number: u64 },
     Unknown,

@@ -1,5 +1,7 @@
 // Whether a sheet can be written as a header, and how long that header is: everything that a writer
 // has to know before it touches its output.
+#![tactic(auto)]
+
 ghost use Rattle.std.specs.Prelude.{◌≡◌, true, false, map, ℕ, suc, ◌+◌, ◌*◌, ◌≤◌, length};
 ghost use Rattle.reading.specs.Choice.{if◌then◌else◌};
 ghost use Rattle.reading.specs.Reading.{run, is_accepted};
@@ -29,7 +31,7 @@ use sheet::{Checked, EntryParts, Stepped, TensorFound, TensorParts};
 use values::{Dialect, Value};
 
 // The alignment that a sheet says itself, if it does.
-#[derive(Drop)]
+#[derive(Clone, Copy)]
 pub enum OwnAlignment {
     Own { alignment: u64 },
     Absent,
@@ -37,7 +39,7 @@ pub enum OwnAlignment {
 
 // How many records a sheet has, where its tensors begin, and whether the alignment's entry is added
 // to them.
-#[derive(Drop)]
+#[derive(Clone, Copy)]
 pub struct Draft {
     pub entries: usize,
     pub tensors: usize,
@@ -46,28 +48,28 @@ pub struct Draft {
 }
 
 // And where the header will end, and where its data will start.
-#[derive(Drop)]
+#[derive(Clone, Copy)]
 pub struct Plan {
     pub draft: Draft,
     pub end: usize,
     pub start: usize,
 }
 
-#[derive(Drop)]
+#[derive(Clone, Copy)]
 pub enum Planned {
     Fine { plan: Plan },
     Refused { why: u64, place: usize },
 }
 
 // That all tensors can be laid, or the refusal and the number of the first that can't.
-#[derive(Drop)]
+#[derive(Clone, Copy)]
 pub enum LaidOut {
     Fits,
     Refused { why: u64, tensor: usize },
 }
 
 // What is left of a room, or that it is too small.
-#[derive(Drop)]
+#[derive(Clone, Copy)]
 pub enum Room {
     Left { bytes: usize },
     Over,

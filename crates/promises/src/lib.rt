@@ -1,4 +1,6 @@
 // What holds of the writer and the reader together: theorems, and the one function that is both.
+#![tactic(auto)]
+
 ghost use Rattle.promises.specs.RoundTrip.{WroteAndRead};
 
 use header::HeaderRead;
@@ -8,7 +10,7 @@ use values::Dialect;
 use writer::HeaderWritten;
 
 // What was written, and what was read of it.
-#[derive(Drop)]
+#[derive(Clone, Copy)]
 pub struct WrittenAndRead {
     pub written: HeaderWritten,
     pub read: HeaderRead,

@@ -1,4 +1,6 @@
 // The range check: whether every tensor's data ends inside the file.
+#![tactic(auto)]
+
 ghost use Rattle.std.specs.Prelude.{◌≡◌, ◌+◌, leb};
 ghost use Rattle.ranges.specs.Ranges.{check_from};
 
@@ -6,7 +8,7 @@ use rows::{OFFSET, SIZE, TensorRow};
 
 // Every tensor ends inside the file, or the refusal, 20, with the number of the first that does
 // not.
-#[derive(Drop)]
+#[derive(Clone, Copy)]
 pub enum RangeCheck {
     Inside,
     Refused { why: u64, tensor: usize },

@@ -5,7 +5,9 @@
 // The ceilings are the one thing here that code hands around.
 
 // A reader's ceilings: the highest version and the highest kind that it takes.
-#[derive(Drop)]
+#![tactic(auto)]
+
+#[derive(Clone, Copy)]
 pub struct Limits {
     pub versions: u64,
     pub kinds: u64,

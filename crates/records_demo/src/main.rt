@@ -1,6 +1,8 @@
 // Reads the header of two tensors, a and b, into records, and prints the fields of each: the name's
 // place and length, kind, dimension count, four lengths, offset and size; beyond the last there is
 // none. Then the same header without its last byte, which is refused and leaves the records blank.
+#![tactic(auto)]
+
 ghost use Rattle.std.specs.Prelude.{◌≡◌, [], ◌∷◌};
 ghost use Rattle.reading.specs.Reading.{seen};
 ghost use Rattle.header.specs.Answers.{as_header};
@@ -14,7 +16,7 @@ use rows::{ENTRY_WORDS, EntryRow, TENSOR_WORDS, TensorRow};
 use tensor_records::{RecordGot, TensorRecord};
 
 // What was read: the answer, and what stands at the numbers 0, 1 and 2 of two records.
-#[derive(Drop)]
+#[derive(Clone, Copy)]
 struct Listing {
     answer: HeaderRead,
     first: RecordGot,

@@ -5,6 +5,8 @@
 // data/README.md says what the file of answers holds and how it is made. A function that compares
 // takes the place that it has reached in a stored answer, and answers the place after what agreed,
 // or LOST, where nothing stands: so what comes after a difference differs too.
+#![tactic(auto)]
+
 ghost use Rattle.std.specs.Prelude.{◌≤◌};
 
 use fields::{Number, Width};

@@ -5,6 +5,8 @@
 // first item. specs/Columns.antt has the same names for definitions.
 
 // An entry's row.
+#![tactic(auto)]
+
 pub type EntryRow = [u64; ENTRY_WORDS];
 
 pub const ENTRY_WORDS: usize = 7;

@@ -1,4 +1,6 @@
 // Scalars: the eleven types of single values, their widths, their bits, and their words in a row.
+#![tactic(auto)]
+
 ghost use Rattle.std.specs.Prelude.{◌%◌, ◌+◌, ◌<◌, ◌^◌, ◌≤◌, ◌≡◌};
 ghost use Rattle.std.specs.Int.{w64};
 ghost use Rattle.std.proofs.Common.{of_z};
@@ -10,7 +12,7 @@ ghost use Rattle.scalars.specs.Scalars as scalar;
 use fields::{GREATEST, Number, Width};
 
 // A scalar of one of eleven types. A float is kept as its bits.
-#[derive(Drop)]
+#[derive(Clone, Copy)]
 pub enum Scalar {
     U8(u8),
     I8(i8),
@@ -26,14 +28,14 @@ pub enum Scalar {
 }
 
 // The width of a type: of a scalar's only.
-#[derive(Drop)]
+#[derive(Clone, Copy)]
 pub enum ScalarWidth {
     Of { width: Width },
     None,
 }
 
 // A whole number that is not below 0, or that there is none.
-#[derive(Drop)]
+#[derive(Clone, Copy)]
 pub enum Natural {
     Number { value: u64 },
     None,

@@ -5,6 +5,8 @@
 // `tensor_at` tell where the parts of one entry are, and `known_entry` those of an entry that was
 // checked before, with no test. Reading a sheet copies nothing: keys, names and values are places
 // in it.
+#![tactic(auto)]
+
 ghost use Rattle.std.specs.Prelude.{◌≡◌, true, ◌+◌, ◌≤◌, ◌<◌, length};
 ghost use Rattle.reading.specs.Reading.{run, seen, is_accepted};
 ghost use Rattle.reading.specs.Each.{times};
@@ -22,75 +24,75 @@ use tensors::{Shape, ShapeRead};
 use values::{Dialect, Span};
 
 // The place after what was passed, or that it is not well formed.
-#[derive(Drop)]
+#[derive(Clone, Copy)]
 pub enum Stepped {
     To { next: usize },
     Bad,
 }
 
-#[derive(Drop)]
+#[derive(Clone, Copy)]
 pub enum TextFound {
     Found { span: Span, next: usize },
     Bad,
 }
 
 // Where an entry's body begins, after its tag, and where it ends.
-#[derive(Drop)]
+#[derive(Clone, Copy)]
 pub enum Opened {
     Body { from: usize, end: usize },
     Bad,
 }
 
 // A metadata entry: its key, the number of its type, and the place of its value.
-#[derive(Drop)]
+#[derive(Clone, Copy)]
 pub struct EntryParts {
     pub key: Span,
     pub form: u64,
     pub value: usize,
 }
 
-#[derive(Drop)]
+#[derive(Clone, Copy)]
 pub enum EntryFound {
     Found { parts: EntryParts, next: usize },
     Bad,
 }
 
 // A metadata entry that is known to be well formed: its parts, and the place after it.
-#[derive(Drop)]
+#[derive(Clone, Copy)]
 pub struct KnownEntry {
     pub parts: EntryParts,
     pub next: usize,
 }
 
 // The key before an entry's, if there is one.
-#[derive(Drop)]
+#[derive(Clone, Copy)]
 pub enum Before {
     None,
     At { span: Span },
 }
 
-#[derive(Drop)]
+#[derive(Clone, Copy)]
 pub enum ShapeFound {
     Found { shape: Shape, next: usize },
     Bad,
 }
 
 // A tensor: its name, its kind and its shape.
-#[derive(Drop)]
+#[derive(Clone, Copy)]
 pub struct TensorParts {
     pub name: Span,
     pub kind: u64,
     pub shape: Shape,
 }
 
-#[derive(Drop)]
+#[derive(Clone, Copy)]
 pub enum TensorFound {
     Found { parts: TensorParts, next: usize },
     Bad,
 }
 
 // How many entries there are, and the place after them; or the start of the first that is bad.
-#[derive(Drop)]
+#[derive(Clone, Copy)]
 pub enum Counted {
     Counts { count: usize, next: usize },
     Bad { place: usize },
@@ -98,7 +100,7 @@ pub enum Counted {
 
 // How many metadata entries and how many tensors there are, and where the tensors begin; or the
 // start of the first entry that is bad.
-#[derive(Drop)]
+#[derive(Clone, Copy)]
 pub enum Checked {
     WellFormed {
         entries: usize,

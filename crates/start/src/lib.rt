@@ -1,4 +1,6 @@
 // What stands before the records of a header: the magic, the version and the two counts.
+#![tactic(auto)]
+
 ghost use Rattle.std.specs.Prelude.{◌+◌, ◌≡◌};
 ghost use Rattle.reading.specs.Ceilings.{under};
 ghost use Rattle.reading.specs.Reading.{run};
@@ -11,33 +13,33 @@ use reading::Limits;
 use values::Dialect;
 
 // How many rows there are.
-#[derive(Drop)]
+#[derive(Clone, Copy)]
 pub struct Rooms {
     pub entries: u64,
     pub tensors: u64,
 }
 
-#[derive(Drop)]
+#[derive(Clone, Copy)]
 pub enum MagicRead {
     Found { turned: bool, next: usize },
     Refused { why: u64, place: usize },
 }
 
-#[derive(Drop)]
+#[derive(Clone, Copy)]
 pub enum VersionRead {
     Found { dialect: Dialect, next: usize },
     Refused { why: u64, place: usize },
 }
 
 // What stands before the first record.
-#[derive(Drop)]
+#[derive(Clone, Copy)]
 pub struct Start {
     pub dialect: Dialect,
     pub tensors: u64,
     pub entries: u64,
 }
 
-#[derive(Drop)]
+#[derive(Clone, Copy)]
 pub enum StartRead {
     Found { start: Start, next: usize },
     Refused { why: u64, place: usize },

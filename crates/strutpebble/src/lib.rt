@@ -4,6 +4,8 @@
 // Each but sp_version returns 0, or a number that says why there is no answer: a refusal's, or a
 // STATUS_ constant of lookup or of words. Each writes all eight words of the answer that it was
 // lent: the answer's own, or of a refusal its place and seven zeros.
+#![tactic(auto)]
+
 ghost use Rattle.std.specs.Prelude.{length, ◌≡◌};
 ghost use Rattle.fetches.specs.Replay.{replayed, reply_to};
 ghost use Rattle.header.specs.Answers.{reader_run};

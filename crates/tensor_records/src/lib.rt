@@ -2,6 +2,8 @@
 //
 // Each function here is thin: it takes the slice apart and leaves the work to functions over rows.
 // Whoever is content with rows needs none of it.
+#![tactic(auto)]
+
 ghost use Rattle.std.specs.Prelude.{◌≡◌, [], ◌<◌, min, length, get_or, take};
 ghost use Rattle.reading.specs.Reading.{seen};
 ghost use Rattle.reading.specs.Each.{filled};
@@ -19,7 +21,7 @@ use rows::{
 
 // A tensor's record: where its name is, its kind, its stated count of dimensions, its four lengths,
 // its offset and its size.
-#[derive(Drop)]
+#[derive(Clone, Copy)]
 pub struct TensorRecord {
     pub name_place: u64,
     pub name_len: u64,
@@ -34,7 +36,7 @@ pub struct TensorRecord {
 }
 
 // A record that is asked for by its number.
-#[derive(Drop)]
+#[derive(Clone, Copy)]
 pub enum RecordGot {
     Found { record: TensorRecord },
     Nothing,

@@ -2,6 +2,8 @@
 //
 // `read_tensor` tests everything. The steps after it read a tensor again that was accepted before,
 // and test nothing.
+#![tactic(auto)]
+
 ghost use Rattle.std.specs.Prelude.{◌*◌, ◌+◌, ◌≤◌, length, true, [], ◌≡◌};
 ghost use Rattle.fields.specs.Value.{as_number};
 ghost use Rattle.kinds.specs.Shape.{products_fit, size_within};
@@ -22,7 +24,7 @@ use rows::TensorRow;
 use values::{Dialect, Span, TextRead};
 
 // The stated count of dimensions, and four lengths, of which those beyond the count are 1.
-#[derive(Drop)]
+#[derive(Clone, Copy)]
 pub struct Shape {
     pub dimensions: u64,
     pub first: u64,
@@ -31,27 +33,27 @@ pub struct Shape {
     pub fourth: u64,
 }
 
-#[derive(Drop)]
+#[derive(Clone, Copy)]
 pub enum ShapeRead {
     Found { shape: Shape, next: usize },
     Refused { why: u64, place: usize },
 }
 
 // A tensor's kind, and the offset of its data from the data's start.
-#[derive(Drop)]
+#[derive(Clone, Copy)]
 pub struct KindAndOffset {
     pub kind: u64,
     pub offset: u64,
 }
 
-#[derive(Drop)]
+#[derive(Clone, Copy)]
 pub enum KindAndOffsetRead {
     Found { stored: KindAndOffset, next: usize },
     Refused { why: u64, place: usize },
 }
 
 // A tensor. Its parameters are the product of its lengths.
-#[derive(Drop)]
+#[derive(Clone, Copy)]
 pub struct Tensor {
     pub name: Span,
     pub shape: Shape,
@@ -61,14 +63,14 @@ pub struct Tensor {
     pub size: u64,
 }
 
-#[derive(Drop)]
+#[derive(Clone, Copy)]
 pub enum TensorRead {
     Found { tensor: Tensor, next: usize },
     Refused { why: u64, place: usize },
 }
 
 // What stands after a tensor's name, and the place after it.
-#[derive(Drop)]
+#[derive(Clone, Copy)]
 pub struct AfterName {
     pub shape: Shape,
     pub kind: u64,

@@ -1,11 +1,13 @@
 // Numbers that stand in a text, as arguments of a program do.
+#![tactic(auto)]
+
 ghost use Rattle.std.specs.Prelude.{◌≡◌};
 ghost use Rattle.text_in.specs.Decimal.{number_of};
 
 use fields::GREATEST;
 
 // A number; or that a text says none.
-#[derive(Drop)]
+#[derive(Clone, Copy)]
 pub enum TextNumber {
     Number { value: u64 },
     Unclear,

@@ -3,6 +3,8 @@
 // Every writer here puts its text at the front of what it is lent, as much of it as there is room
 // for, and answers how many bytes that is. So none asks for room, and one that answers less than
 // the room has put all of its text.
+#![tactic(auto)]
+
 ghost use Rattle.std.specs.Prelude.{◌≡◌, ◌≤◌, min, length, drop};
 ghost use Rattle.text_out.specs.Put.{Put};
 ghost use Rattle.text_out.specs.Words as words;

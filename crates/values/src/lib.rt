@@ -8,6 +8,8 @@
 // Arrays stand in one another: `read_array`, `pass_items` and `read_value_of` call one another, and
 // the depth falls. What is no array is plain, and is read and passed outside that cycle
 // (`read_plain`, `pass_plain`).
+#![tactic(auto)]
+
 ghost use Rattle.std.specs.Prelude.{ℕ, ◌+◌, ◌<◌, ◌≤◌, drop, length, take, ◌≡◌};
 ghost use Rattle.fields.specs.Value.{as_number, number};
 ghost use Rattle.reading.specs.Each.{times};
@@ -24,7 +26,7 @@ use scalars::{Scalar, ScalarWidth};
 
 // How a file is written: its version; whether its numbers are big-endian; and whether its magic is
 // turned round as well, as in one of the two big-endian forms. No record depends on that.
-#[derive(Drop)]
+#[derive(Clone, Copy)]
 pub struct Dialect {
     pub version: u64,
     pub big: bool,
@@ -32,27 +34,27 @@ pub struct Dialect {
 }
 
 // Where the bytes of a text are.
-#[derive(Drop)]
+#[derive(Clone, Copy)]
 pub struct Span {
     pub place: usize,
     pub len: usize,
 }
 
-#[derive(Drop)]
+#[derive(Clone, Copy)]
 pub enum TextRead {
     Found { span: Span, next: usize },
     Refused { why: u64, place: usize },
 }
 
 // A key: where it is, whether it is "general.alignment", and whether it starts with "tokenizer.".
-#[derive(Drop)]
+#[derive(Clone, Copy)]
 pub struct Key {
     pub span: Span,
     pub is_alignment: bool,
     pub is_tokenizer: bool,
 }
 
-#[derive(Drop)]
+#[derive(Clone, Copy)]
 pub enum KeyRead {
     Found { key: Key, next: usize },
     Refused { why: u64, place: usize },
@@ -60,7 +62,7 @@ pub enum KeyRead {
 
 // An array: the type of its items, how many there are and how many are kept, and the place of the
 // first.
-#[derive(Drop)]
+#[derive(Clone, Copy)]
 pub struct ArraySpan {
     pub item: u64,
     pub count: u64,
@@ -68,40 +70,40 @@ pub struct ArraySpan {
     pub first: usize,
 }
 
-#[derive(Drop)]
+#[derive(Clone, Copy)]
 pub enum ArrayRead {
     Found { array: ArraySpan, next: usize },
     Refused { why: u64, place: usize },
 }
 
-#[derive(Drop)]
+#[derive(Clone, Copy)]
 pub enum Value {
     Single(Scalar),
     Text(Span),
     Array(ArraySpan),
 }
 
-#[derive(Drop)]
+#[derive(Clone, Copy)]
 pub enum ValueRead {
     Found { value: Value, next: usize },
     Refused { why: u64, place: usize },
 }
 
 // What was passed over: the place after it.
-#[derive(Drop)]
+#[derive(Clone, Copy)]
 pub enum Passed {
     To { next: usize },
     Refused { why: u64, place: usize },
 }
 
-#[derive(Drop)]
+#[derive(Clone, Copy)]
 pub struct Entry {
     pub key: Span,
     pub is_alignment: bool,
     pub value: Value,
 }
 
-#[derive(Drop)]
+#[derive(Clone, Copy)]
 pub enum EntryRead {
     Found { entry: Entry, next: usize },
     Refused { why: u64, place: usize },

@@ -1,4 +1,6 @@
 // The answers of the exported functions as numbers: one that is returned, and eight words.
+#![tactic(auto)]
+
 ghost use Rattle.std.specs.Prelude.{◌≡◌};
 ghost use Rattle.header.specs.Answers.{as_header};
 ghost use Rattle.words.specs.Words as words;

@@ -2,6 +2,8 @@
 // output, from its middle, and answers its count of bytes.
 //
 // `write_header` asks `plan` first, so that a refusal finds the output as it was.
+#![tactic(auto)]
+
 ghost use Rattle.std.specs.Prelude.{◌≡◌, true, map, ◌++◌, ℕ, suc, ◌+◌, ◌≤◌, ◌<◌, length};
 ghost use Rattle.reading.specs.Reading.{run, is_accepted};
 ghost use Rattle.reading.specs.Each.{times};
@@ -37,14 +39,14 @@ use tensors::Shape;
 use values::Dialect;
 
 // Where the header ends and where its data starts, or the refusal.
-#[derive(Drop)]
+#[derive(Clone, Copy)]
 pub enum HeaderWritten {
     Written { end: usize, start: usize },
     Refused { why: u64, place: usize },
 }
 
 // How many bytes were written, and the place in the sheet after what they say.
-#[derive(Drop)]
+#[derive(Clone, Copy)]
 pub struct Copied {
     pub written: usize,
     pub next: usize,
