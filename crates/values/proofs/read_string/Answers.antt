@@ -24,7 +24,7 @@ unfolding text text_looking here run and_then
 returns-then-value-gt1073741824 c = let r = sized (goal.at.returns-then-value-gt1073741824 c).In-Value in rw (run_bind, run_bind, ← r, run_bind, lt-leb _ _ c.if-value-gt1073741824.true) refl
 
 pub overflow_add-end : goal.overflow_add-end
-overflow_add-end c = record { fits = omega (arith, size-within _ _ _ (sized (goal.at.overflow_add-end c).In-Value), c.ranges, c.well-formed) }
+overflow_add-end c = record { fits = omega (arith, size-within _ _ _ (sized (goal.at.overflow_add-end c).In-Value), c.ranges, c.well_formed) }
 
 pub returns-then-s-end : goal.returns-then-s-end
 unfolding text text_looking here run and_then
