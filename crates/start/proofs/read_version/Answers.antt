@@ -1,6 +1,6 @@
 -- `start::read_version` meets its contract: a number of four bytes, the form that it says, the test
 -- of refusal 4, and then the ceiling. Assumes nothing.
-use borrow.Author.Tests.{le-leb, lt-leb, not-true, not-false}
+use borrow.Author.Tests.{le-leb, lt-leb}
 use mathlib.Core.Path.{◌≡◌, refl, sym, ap, ◌∙◌}
 use Rattle.reading.specs.Reading.{accepted, run, here, and_then}
 use Rattle.fields.specs.Value.{number, as_number}
@@ -32,14 +32,14 @@ returns-in_default c =
 pub returns-then-not-is_known : goal.returns-then-not-is_known
 unfolding version here under run and_then
 returns-then-not-is_known c =
-    rw (run-under, run-under, under-number, ← numbered (goal.at.returns-then-not-is_known c).In-Value, run-under, ← tested (goal.at.returns-then-not-is_known c).After-is_known, not-true c.is_known.result c.if-not-is_known.true) refl
+    rw (run-under, run-under, under-number, ← numbered (goal.at.returns-then-not-is_known c).In-Value, run-under, ← tested (goal.at.returns-then-not-is_known c).After-is_known, c.if-not-is_known.true) refl
 
 pub returns-then-limits-dialect : goal.returns-then-limits-dialect
 unfolding version here under run and_then
 returns-then-limits-dialect c =
-    rw (run-under, run-under, under-number, ← numbered (goal.at.returns-then-limits-dialect c).In-Value, run-under, ← tested (goal.at.returns-then-limits-dialect c).After-is_known, not-false c.is_known.result c.if-not-is_known.false, run-under, ← c.dialect_by-dialect.ensures, lt-leb _ _ c.if-limits-dialect.true) refl
+    rw (run-under, run-under, under-number, ← numbered (goal.at.returns-then-limits-dialect c).In-Value, run-under, ← tested (goal.at.returns-then-limits-dialect c).After-is_known, c.if-not-is_known.false, run-under, ← c.dialect_by-dialect.ensures, lt-leb _ _ c.if-limits-dialect.true) refl
 
 pub returns : goal.returns
 unfolding version here under run and_then
 returns c =
-    rw (run-under, run-under, under-number, ← numbered (goal.at.returns c).In-Value, run-under, ← tested (goal.at.returns c).After-is_known, not-false c.is_known.result c.if-not-is_known.false, run-under, ← c.dialect_by-dialect.ensures, le-leb _ _ c.if-limits-dialect.false) refl
+    rw (run-under, run-under, under-number, ← numbered (goal.at.returns c).In-Value, run-under, ← tested (goal.at.returns c).After-is_known, c.if-not-is_known.false, run-under, ← c.dialect_by-dialect.ensures, le-leb _ _ c.if-limits-dialect.false) refl
