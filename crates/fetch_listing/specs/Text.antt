@@ -1,8 +1,7 @@
 -- The text of a replay, as bytes: a line for the trace, and one for each tensor, with its name and
 -- the record after which it was complete; or one for a refusal.
-use Rattle.std.specs.Prelude.{ℕ, List, [], ◌∷◌, ◌++◌, map, eqb, length, drop, get_or}
+use Rattle.std.specs.Prelude.{ℕ, List, [], ◌∷◌, ◌++◌, map, eqb, length, drop, get_or, if◌then◌else◌}
 use Rattle.reading.specs.Back.{got}
-use Rattle.reading.specs.Choice.{if◌then◌else◌}
 use Rattle.reading.specs.Reading.{Answer, accepted, refused, seen}
 use Rattle.tensors.specs.Rows.{tensor_row}
 use Rattle.header.specs.Format.{FullHeader}

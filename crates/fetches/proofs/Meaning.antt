@@ -1,5 +1,6 @@
 -- What the answer for a tensor means: after so many records every one of its bytes has been
 -- delivered, and after fewer not; or never. Assumes nothing.
+use Rattle.std.specs.Prelude.{if◌then◌else◌}
 use Prim.Native.Nat.{ℕ, zero, suc, ◌+◌, ◌≤◌, ◌<◌, min}
 use mathlib.Core.Path.{◌≡◌, refl, sym, ◌∙◌}
 use mathlib.Core.Bool.{Bool, true, false}
@@ -9,7 +10,6 @@ use lib.Dec.{leb, ltb}
 use lib.ListN.{length, take, length-take}
 use lib.Seq.{get_or-take}
 use borrow.Author.Tests.{le-leb, lt-ltb, leb-true, ltb-true}
-use Rattle.reading.specs.Choice.{if◌then◌else◌}
 use Rattle.fetches.specs.Trace.{fetch_end}
 use Rattle.fetches.specs.Replay.{never, delivers, delivered, complete, least_from, first_after}
 use Rattle.fetches.specs.Sweep.{nth, In}

@@ -1,5 +1,6 @@
 -- The records of a trace: what one that was read is, and the turns of a check of them all. Assumes
 -- nothing.
+use Rattle.std.specs.Prelude.{if◌then◌else◌}
 use Prim.Native.Nat.{ℕ, zero, suc, ◌+◌, ◌-◌, ◌*◌, ◌^◌, ◌≤◌, ◌<◌}
 use mathlib.Core.Path.{◌≡◌, refl, sym, ap, ◌∙◌}
 use mathlib.Core.Bool.{true, false}
@@ -10,7 +11,6 @@ use lib.ListN.{length, take, drop, get_or}
 use lib.Seq.{take-take}
 use borrow.Author.Tests.{le-leb, lt-leb, ltb-true, eqb-true, lt-ltb, le-ltb, eq-eqb, ne_eqb}
 use Rattle.reading.specs.Back.{got, Sure}
-use Rattle.reading.specs.Choice.{if◌then◌else◌}
 use Rattle.reading.specs.Each.{each, times}
 use Rattle.reading.specs.Reading.{Answer, accepted, refused, run, ◌>>=◌, here, is_accepted, seen, passed}
 use Rattle.reading.proofs.Repetition.{times-first, times_none}
@@ -113,7 +113,7 @@ module _ (s : List ℕ) where
   whole_by (accepted l q) e h = (sure_trace (starting (length s - 1))).holds l q e
   whole_by (refused n p) e h = let z : ◌≡◌ {A = ℕ} 0 1 = cc in absurd (omega arith)
 
-  -- a well_formed trace of n records: there is nothing after the last
+  -- a well-formed trace of n records: there is nothing after the last
   pub record Whole (n : ℕ) : Type 0 where
     pub long : length s ≡ 1 + 20 * n
     pub one : value true (take 1 (drop 0 s)) ≡ 1
@@ -200,7 +200,7 @@ module _ (s : List ℕ) where
     pub first_byte : value true (take 1 (drop 0 s)) ≡ get_or s 0 0
     first_byte = one_byte true s 0 (omega arith)
 
-  -- a well_formed trace is accepted
+  -- a well-formed trace is accepted
   module _ {n : ℕ} (t : Whole s n) where
     rest-good : (k i : ℕ) → i + k ≡ n → rest s (1 + 20 * i) ≡ Answered
     rest-good zero i e = rest_end s (1 + 20 * i) (omega (arith, t.long))

@@ -1,4 +1,5 @@
 -- Every refusal of a replay is one of those listed, at a place within the trace. Assumes nothing.
+use Rattle.std.specs.Prelude.{if◌then◌else◌}
 use Prim.Native.Nat.{ℕ, ◌-◌, ◌^◌}
 use mathlib.Core.Path.{◌≡◌, refl, sym, ◌∙◌}
 use mathlib.Core.Bool.{Bool, true, false}
@@ -7,7 +8,6 @@ use native.Mathlib.Omega.{arith}
 use lib.Dec.{leb, ltb, eqb}
 use lib.ListN.{length, take}
 use Rattle.reading.specs.Ceilings.{full, Low}
-use Rattle.reading.specs.Choice.{if◌then◌else◌}
 use Rattle.reading.specs.Each.{times}
 use Rattle.reading.specs.Reading.{done, Answer, accepted, refused, run}
 use Rattle.reading.specs.Refusals.{is_one_of, OneOf, Refuses}

@@ -1,5 +1,6 @@
 -- The same of a call, its answer and the table that it leaves: what each answer tells of its row, and
 -- what a longer trace changes. Assumes nothing.
+use Rattle.std.specs.Prelude.{if◌then◌else◌}
 use Prim.Native.Nat.{ℕ, zero, suc, ◌+◌, ◌*◌, ◌^◌, ◌≤◌, ◌<◌}
 use mathlib.Core.Path.{◌≡◌, refl, sym, ap, ◌∙◌}
 use mathlib.Core.Bool.{Bool, true, false}
@@ -9,7 +10,6 @@ use lib.Dec.{leb}
 use lib.ListN.{length, drop, get_or, length-map, get_or-append}
 use borrow.Author.Tests.{leb-true}
 use Rattle.reading.specs.Back.{got, same}
-use Rattle.reading.specs.Choice.{if◌then◌else◌}
 use Rattle.reading.specs.Each.{filled}
 use Rattle.reading.specs.Reading.{Answer, accepted, refused, is_accepted, seen}
 use Rattle.reading.proofs.RunLaws.{accepted-seen}

@@ -1,7 +1,6 @@
 -- When each tensor of a file was complete: after the first record of a trace by which every one of
 -- its bytes was delivered.
-use Rattle.std.specs.Prelude.{ℕ, zero, suc, ◌+◌, ◌-◌, ◌^◌, min, List, [], ◌∷◌, map, Bool, true, false, leb, ltb, length, take}
-use Rattle.reading.specs.Choice.{if◌then◌else◌}
+use Rattle.std.specs.Prelude.{ℕ, zero, suc, ◌+◌, ◌-◌, ◌^◌, min, List, [], ◌∷◌, map, Bool, true, false, leb, ltb, length, take, if◌then◌else◌}
 use Rattle.reading.specs.Reading.{Answer, accepted, refused, seen}
 use Rattle.rows.specs.Columns.{offset_in, size_in}
 use Rattle.fetches.specs.Trace.{fetch_end, fetches}

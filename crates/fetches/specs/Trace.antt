@@ -1,7 +1,6 @@
 -- A trace of fetches: the version byte, 1, and then records of 20 bytes. All numbers are
 -- big-endian.
-use Rattle.std.specs.Prelude.{ℕ, ◌+◌, ◌-◌, ◌^◌, ◌/◌, List, true, eqb, ltb, length, take, drop}
-use Rattle.reading.specs.Choice.{if◌then◌else◌}
+use Rattle.std.specs.Prelude.{ℕ, ◌+◌, ◌-◌, ◌^◌, ◌/◌, List, true, eqb, ltb, length, take, drop, if◌then◌else◌}
 use Rattle.reading.specs.Each.{times}
 use Rattle.reading.specs.Reading.{Reading, done, Answer, accepted, refused, run, ◌>>=◌, ◌>>◌, here, next, check}
 use Rattle.fields.specs.Value.{value, number}

@@ -1,5 +1,6 @@
 -- A number at a place, at every width and in both orders: the field, and its bytes taken one at a
 -- time, the greatest first. Assumes nothing.
+use Rattle.std.specs.Prelude.{if◌then◌else◌}
 use Prim.Native.Nat.{ℕ, zero, suc, ◌+◌, ◌-◌, ◌*◌, ◌/◌, ◌^◌, ◌≤◌, ◌<◌}
 use mathlib.Core.Path.{◌≡◌, refl, sym, ap, ◌∙◌}
 use mathlib.Core.List.{List, [], ◌∷◌, ◌++◌, reverse, reverse-append}
@@ -10,7 +11,6 @@ use native.Mathlib.Nat.{mul-suc, mul-le-mul_right, add-suc, mul_assoc, pow-succ'
 use lib.ListN.{length, take, drop, get_or, length-drop, length-reverse}
 use lib.Seq.{drop-cons, drop-drop, take-add, take-take, length-take-le}
 use lib.Dec.{leb}
-use Rattle.reading.specs.Choice.{if◌then◌else◌}
 use Rattle.reading.specs.Each.{times}
 use Rattle.reading.specs.Reading.{done, accepted, refused, run, passed}
 use Rattle.fields.specs.Value.{le_value, value, halves, number}

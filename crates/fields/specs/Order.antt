@@ -1,6 +1,5 @@
 -- The byte order of texts.
-use Rattle.std.specs.Prelude.{ℕ, Bool, true, false, List, [], ◌∷◌, ltb, eqb}
-use Rattle.reading.specs.Choice.{if◌then◌else◌}
+use Rattle.std.specs.Prelude.{ℕ, Bool, true, false, List, [], ◌∷◌, ltb, eqb, if◌then◌else◌}
 
 -- whether one text comes before another: at the first byte where they differ it has the lesser one,
 -- or it is the other's front and shorter

@@ -1,5 +1,6 @@
 -- Where the data starts: refusal 18 is never the answer to a slice, since the start is at most the
 -- alignment or twice the header's end. Assumes nothing.
+use Rattle.std.specs.Prelude.{if◌then◌else◌}
 use Prim.Native.Nat.{ℕ, ◌+◌, ◌-◌, ◌%◌, ◌^◌, ◌≤◌, ◌<◌, max}
 use mathlib.Core.Path.{◌≡◌, refl, sym, ◌∙◌}
 use mathlib.Core.List.{List, [], ◌∷◌}
@@ -11,7 +12,6 @@ use lib.Dec.{leb, eqb, ltb}
 use borrow.Author.Tests.{leb-true, leb-false, eqb-true, eqb-false}
 use Rattle.reading.specs.Back.{All, Sure}
 use Rattle.reading.specs.Ceilings.{full}
-use Rattle.reading.specs.Choice.{if◌then◌else◌}
 use Rattle.reading.specs.Each.{times, fold}
 use Rattle.reading.specs.Reading.{Reading, accepted, refused, run}
 use Rattle.reading.specs.Refusals.{Refuses}

@@ -1,5 +1,6 @@
 -- A big-endian file of version 3 is read the same behind either magic: past the version nothing
 -- looks at the magic, and the version's bytes say the same. Assumes nothing.
+use Rattle.std.specs.Prelude.{if◌then◌else◌}
 use Prim.Native.Nat.{ℕ}
 use mathlib.Core.Path.{◌≡◌, refl, sym, ap, ◌∙◌}
 use mathlib.Core.List.{List}
@@ -9,7 +10,6 @@ use lib.Dec.{leb}
 use lib.ListN.{length}
 use borrow.Author.Tests.{le-leb}
 use Rattle.reading.specs.Ceilings.{under}
-use Rattle.reading.specs.Choice.{if◌then◌else◌}
 use Rattle.reading.specs.Each.{each, times}
 use Rattle.reading.specs.Reading.{Reading, done, refuse, Answer, accepted, refused, run, seen, here, check, and_then, ◌>>=◌}
 use Rattle.reading.specs.declared.Limits.{Limits}

@@ -1,5 +1,6 @@
 -- Rows for any count: a reader that has them never refuses because there are too few, since a count
 -- that was read is below 2 ^ 64. Assumes nothing.
+use Rattle.std.specs.Prelude.{if◌then◌else◌}
 use Prim.Native.Nat.{ℕ, ◌^◌, ◌≤◌, ◌<◌}
 use mathlib.Core.Path.{◌≡◌, refl, sym}
 use mathlib.Core.List.{List}
@@ -10,7 +11,6 @@ use Rattle.reading.specs.Back.{All}
 use Rattle.fields.specs.Bytes.{Byte, Within}
 use Rattle.reading.specs.Ceilings.{under}
 use Rattle.reading.specs.Refusals.{Refuses}
-use Rattle.reading.specs.Choice.{if◌then◌else◌}
 use Rattle.reading.specs.Reading.{refused, run}
 use Rattle.reading.specs.declared.Limits.{Limits}
 use Rattle.reading.proofs.SureLaws.{sure_so}

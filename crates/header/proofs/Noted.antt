@@ -1,5 +1,6 @@
 -- What is noted of offsets while tensors are passed decides the last test: the place is that of the
 -- first offset that is misaligned, or 0. Assumes nothing.
+use Rattle.std.specs.Prelude.{if◌then◌else◌}
 use Prim.Native.Nat.{ℕ, ◌<◌}
 use mathlib.Core.Path.{◌≡◌, refl, ap, ◌∙◌}
 use mathlib.Core.List.{List, [], ◌∷◌}
@@ -7,7 +8,6 @@ use mathlib.Core.Bool.{Bool, true, false}
 use native.Mathlib.Omega.{arith}
 use lib.Dec.{eqb}
 use borrow.Author.Tests.{ne_eqb}
-use Rattle.reading.specs.Choice.{if◌then◌else◌}
 use Rattle.reading.specs.Each.{check_each, fold}
 use Rattle.reading.specs.Reading.{Reading, ◌>>=◌, ◌>>◌, check}
 use Rattle.tensors.specs.Format.{offset_place}

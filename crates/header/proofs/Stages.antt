@@ -1,5 +1,6 @@
 -- The whole run after each of its stages: the start, the entries, the tensors, and the last tests.
 -- Assumes nothing.
+use Rattle.std.specs.Prelude.{if◌then◌else◌}
 use Prim.Native.Nat.{ℕ, ◌<◌}
 use mathlib.Core.Path.{◌≡◌, refl, sym, ap, subst, ◌∙◌}
 use mathlib.Core.List.{List}
@@ -7,7 +8,6 @@ use mathlib.Core.Bool.{Bool, true, false}
 use native.Mathlib.Omega.{arith}
 use lib.Dec.{leb, eqb}
 use Rattle.reading.specs.Ceilings.{under, marks}
-use Rattle.reading.specs.Choice.{if◌then◌else◌}
 use Rattle.reading.specs.Each.{each, times, fold}
 use Rattle.reading.specs.Reading.{done, Answer, accepted, refused, run, ◌>>=◌, ◌>>◌, here, check, and_then, seen}
 use Rattle.reading.proofs.CeilingLaws.{ceilings, let_through, under-each, run-under, low_run, low-each}

@@ -1,7 +1,6 @@
 -- What a whole header says, without its places; the bytes that say it; and what a reader finds in
 -- them.
-use Rattle.std.specs.Prelude.{ℕ, suc, ◌≤◌, ◌≡◌, true, List, ◌++◌, map, length}
-use Rattle.reading.specs.Choice.{if◌then◌else◌}
+use Rattle.std.specs.Prelude.{ℕ, suc, ◌≤◌, ◌≡◌, true, List, ◌++◌, map, length, if◌then◌else◌}
 use Rattle.reading.specs.Each.{fold}
 use Rattle.reading.specs.Back.{bytes_of_all, Along, All}
 use Rattle.kinds.specs.Shape.{greatest}

@@ -4,8 +4,7 @@
 -- It goes in the order of the file. The refusals beside those of its parts, last of all:
 --   18  a data offset above 2 ^ 64 - 1, at the header's end
 --   16  a tensor's offset that is no multiple of the alignment, at that offset; the first one decides
-use Rattle.std.specs.Prelude.{ℕ, ◌%◌, Bool, false, List, leb, eqb}
-use Rattle.reading.specs.Choice.{if◌then◌else◌}
+use Rattle.std.specs.Prelude.{ℕ, ◌%◌, Bool, false, List, leb, eqb, if◌then◌else◌}
 use Rattle.reading.specs.Reading.{Reading, done, ◌>>=◌, ◌>>◌, here, check}
 use Rattle.reading.specs.Each.{each, times, check_each, fold}
 use Rattle.kinds.specs.Shape.{greatest}

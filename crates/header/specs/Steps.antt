@@ -1,9 +1,8 @@
 -- What the reader's private steps are held to: rows that are kept while a header is tested, what is
 -- noted of its offsets meanwhile, and the answer of its last tests. No contract of a public function
 -- cites it.
-use Rattle.std.specs.Prelude.{ℕ, ◌%◌, ◌≤◌, ◌≡◌, List, leb, eqb, length}
+use Rattle.std.specs.Prelude.{ℕ, ◌%◌, ◌≤◌, ◌≡◌, List, leb, eqb, length, if◌then◌else◌}
 use Rattle.std.specs.Int.Bits.{bit_and}
-use Rattle.reading.specs.Choice.{if◌then◌else◌}
 use Rattle.reading.specs.Reading.{Answer, accepted, refused}
 use Rattle.reading.specs.Each.{filled}
 use Rattle.kinds.specs.Shape.{greatest}

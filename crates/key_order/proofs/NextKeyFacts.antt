@@ -1,5 +1,6 @@
 -- What the next key is: it comes after the last one, no key lies between, no later row has it; and
 -- where there is none, all keys came. Assumes nothing.
+use Rattle.std.specs.Prelude.{if◌then◌else◌}
 use Prim.Native.Nat.{ℕ, zero, suc, ◌+◌, ◌<◌}
 use mathlib.Core.Path.{◌≡◌, refl, subst}
 use mathlib.Core.Bool.{Bool, true, false}
@@ -8,7 +9,6 @@ use native.Mathlib.Omega.{arith}
 use lib.Dec.{ltb}
 use lib.ListN.{length, drop}
 use borrow.Author.Tests.{ltb-true, ltb-false}
-use Rattle.reading.specs.Choice.{if◌then◌else◌}
 use Rattle.fields.specs.Order.{before}
 use Rattle.fields.proofs.Before.{clash, not_itself, not-both, not_through}
 use Rattle.key_order.specs.Order.{key_at, to_come, better, improved, best_from, next_key}

@@ -1,5 +1,6 @@
 -- The rows in the order of their keys: the keys strictly ascend, every row's key is among them, and
 -- each stands for the last row that has it. Assumes nothing.
+use Rattle.std.specs.Prelude.{if◌then◌else◌}
 use Prim.Native.Nat.{ℕ, zero, suc, ◌+◌, ◌≤◌, ◌<◌}
 use mathlib.Core.Path.{◌≡◌, refl}
 use mathlib.Core.Bool.{Bool, true, false}
@@ -9,7 +10,6 @@ use native.Mathlib.Omega.{arith}
 use native.Mathlib.Nat.{not-suc-le-zero, le_of_suc-le-suc}
 use lib.ListN.{length, get_or}
 use Rattle.reading.specs.Back.{All}
-use Rattle.reading.specs.Choice.{if◌then◌else◌}
 use Rattle.fields.specs.Order.{before}
 use Rattle.fields.proofs.Before.{clash, not_itself, neither, through}
 use Rattle.key_order.specs.Order.{name_in, key_at, to_come, next_key, row_then, ordered_after, ordered}

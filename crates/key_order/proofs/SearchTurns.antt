@@ -1,5 +1,6 @@
 -- Turns of the search for the next key, and of the rows in the order of their keys. Assumes
 -- nothing.
+use Rattle.std.specs.Prelude.{if◌then◌else◌}
 use Prim.Native.Nat.{ℕ, zero, suc, ◌+◌, ◌-◌, ◌≤◌, ◌<◌}
 use mathlib.Core.Path.{◌≡◌, refl, subst}
 use mathlib.Core.Bool.{Bool, true, false}
@@ -8,7 +9,6 @@ use native.Mathlib.Omega.{arith}
 use native.Mathlib.Numerals.{add-one, sub-one}
 use lib.ListN.{length, drop, get_or, drop_of_length-le}
 use lib.Seq.{drop-cons}
-use Rattle.reading.specs.Choice.{if◌then◌else◌}
 use Rattle.fields.specs.Order.{before}
 use Rattle.key_order.specs.Order.{name_in, key_at, to_come, better, improved, best_from, next_key, ordered_after}
 use Rattle.key_order.specs.declared.LastKey.{LastKey}

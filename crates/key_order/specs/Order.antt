@@ -1,6 +1,5 @@
 -- Keys in byte order, each once: which entry row comes next.
-use Rattle.std.specs.Prelude.{ℕ, zero, suc, Bool, true, List, [], ◌∷◌, length, get_or}
-use Rattle.reading.specs.Choice.{if◌then◌else◌}
+use Rattle.std.specs.Prelude.{ℕ, zero, suc, Bool, true, List, [], ◌∷◌, length, get_or, if◌then◌else◌}
 use Rattle.fields.specs.Order.{before}
 use Rattle.values.specs.Contents.{inside_of}
 use Rattle.key_order.specs.declared.LastKey.{LastKey}

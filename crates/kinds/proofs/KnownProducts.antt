@@ -1,4 +1,5 @@
 -- What fits: each product of a shape on the way, where all were tested before. Assumes nothing.
+use Rattle.std.specs.Prelude.{if◌then◌else◌}
 use Prim.Native.Nat.{ℕ, ◌*◌, ◌≤◌}
 use mathlib.Core.Path.{◌≡◌, refl}
 use mathlib.Core.List.{List, [], ◌∷◌}
@@ -13,7 +14,6 @@ use denote.Laws.{Is}
 use denote.Plain.{UInt}
 use denote.Array.{Array}
 use borrow.Author.Tests.{leb-true}
-use Rattle.reading.specs.Choice.{if◌then◌else◌}
 use Rattle.kinds.specs.Shape.{greatest, product_of, products_fit_from, products_fit}
 
 -- one product, and those that follow it

@@ -1,5 +1,6 @@
 -- Products of 64 bits: when one fits, what is answered of it, and the products of a shape's lengths
 -- one after the other. Assumes nothing.
+use Rattle.std.specs.Prelude.{if◌then◌else◌}
 use Prim.Native.Nat.{ℕ, ◌*◌, ◌/◌, ◌≤◌, ◌<◌, ◌^◌}
 use mathlib.Core.Path.{◌≡◌, refl, ◌∙◌}
 use mathlib.Core.Bool.{Bool, true, false}
@@ -15,7 +16,6 @@ use denote.Laws.{Is}
 use denote.Plain.{UInt}
 use denote.Shadow.{shadow}
 use denote.Array.{Array, each}
-use Rattle.reading.specs.Choice.{if◌then◌else◌}
 use Rattle.kinds.specs.declared.Bounded.{Bounded}
 use Rattle.kinds.specs.declared.Bounded.TheVariants.{Fits, Over}
 use Rattle.kinds.specs.Shape.{greatest, first_length, product_from, products_fit_from, bounded_product}

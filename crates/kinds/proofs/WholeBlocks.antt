@@ -1,5 +1,6 @@
 -- Whole blocks: which numbers are, how that is tested, and that of those nothing is rounded. A line
 -- of a tensor is as many numbers as its first length says. Assumes nothing.
+use Rattle.std.specs.Prelude.{if◌then◌else◌}
 use Prim.Native.Nat.{ℕ, ◌*◌, ◌%◌, ◌∣◌}
 use mathlib.Core.Path.{◌≡◌, refl, sym, ap, ◌∙◌}
 use mathlib.Core.Bool.{Bool, true, false, not}
@@ -22,7 +23,6 @@ use native.Mathlib.Nat.{
 }
 use lib.Dec.{eqb}
 use borrow.Author.Tests.{eqb-true, eq-eqb, ne_eqb, ltb-false}
-use Rattle.reading.specs.Choice.{if◌then◌else◌}
 use Rattle.kinds.specs.Table.{block_of, written_kind}
 use Rattle.kinds.specs.Shape.{first_length, whole_blocks, product_from, product_of, bytes_for, size_of}
 use Rattle.kinds.proofs.KindTable.{Left, long_blocks, written-32, written-divides, short-block}

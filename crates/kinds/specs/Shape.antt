@@ -1,7 +1,7 @@
 -- The product of a shape's lengths, and the bytes of a tensor of that shape and a kind. The first
 -- length must be whole blocks, and each number must fit 64 bits.
-use Rattle.std.specs.Prelude.{ℕ, ◌*◌, ◌/◌, ◌%◌, ◌^◌, ◌-◌, Bool, true, false, List, [], ◌∷◌, leb, eqb}
-use Rattle.reading.specs.Choice.{if◌then◌else◌, require}
+use Rattle.std.specs.Prelude.{ℕ, ◌*◌, ◌/◌, ◌%◌, ◌^◌, ◌-◌, Bool, true, false, List, [], ◌∷◌, leb, eqb, if◌then◌else◌}
+use Rattle.reading.specs.Choice.{require}
 use Rattle.kinds.specs.declared.Bounded.{Bounded}
 use Rattle.kinds.specs.declared.Bounded.TheVariants.{Fits, Over}
 use Rattle.kinds.specs.declared.Measure.{Measure}

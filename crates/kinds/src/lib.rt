@@ -1,8 +1,7 @@
 // The kinds of tensor data, and the size of a tensor.
 #![tactic(auto)]
 
-ghost use Rattle.std.specs.Prelude.{◌≡◌, true, ◌*◌, ◌≤◌, leb};
-ghost use Rattle.reading.specs.Choice.{if◌then◌else◌};
+ghost use Rattle.std.specs.Prelude.{◌≡◌, true, ◌*◌, ◌≤◌, leb, if◌then◌else◌};
 ghost use Rattle.kinds.specs.Table.{block, block_of, known_kind, written_kind};
 ghost use Rattle.kinds.specs.Shape.{greatest, whole_blocks, bytes_for, product_of, products_fit, bounded_product, measure_of};
 ghost use Rattle.kinds.specs.declared.Bounded.TheVariants.{Fits, Over};

@@ -1,6 +1,5 @@
 -- Multiples, and a number rounded up to one.
-use Rattle.std.specs.Prelude.{ℕ, ◌+◌, ◌-◌, ◌*◌, ◌/◌, ◌%◌, Bool, leb, eqb}
-use Rattle.reading.specs.Choice.{if◌then◌else◌}
+use Rattle.std.specs.Prelude.{ℕ, ◌+◌, ◌-◌, ◌*◌, ◌/◌, ◌%◌, Bool, leb, eqb, if◌then◌else◌}
 use Rattle.kinds.specs.Shape.{greatest}
 use Rattle.kinds.specs.declared.Bounded.{Bounded}
 use Rattle.kinds.specs.declared.Bounded.TheVariants.{Fits, Over}

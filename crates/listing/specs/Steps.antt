@@ -1,6 +1,5 @@
 -- What the steps inside a tensor's lengths put: each length for itself, where it is stated.
-use Rattle.std.specs.Prelude.{ℕ, List, [], ◌∷◌, ◌++◌, ltb}
-use Rattle.reading.specs.Choice.{if◌then◌else◌}
+use Rattle.std.specs.Prelude.{ℕ, List, [], ◌∷◌, ◌++◌, ltb, if◌then◌else◌}
 use Rattle.text_out.specs.Words.{labelled}
 use Rattle.listing.specs.Text.{space}
 use Rattle.rows.specs.Columns.{dimensions_in, first_length_in, second_length_in}

@@ -1,7 +1,6 @@
 -- The text of a listing, as bytes: a line for the header, one for each distinct key in byte order,
 -- one for each tensor; or one for a refusal.
-use Rattle.std.specs.Prelude.{ℕ, Bool, List, [], ◌∷◌, ◌++◌, map}
-use Rattle.reading.specs.Choice.{if◌then◌else◌}
+use Rattle.std.specs.Prelude.{ℕ, Bool, List, [], ◌∷◌, ◌++◌, map, if◌then◌else◌}
 use Rattle.reading.specs.Back.{bytes_of_all}
 use Rattle.reading.specs.Ceilings.{under, full}
 use Rattle.reading.specs.Reading.{Answer, accepted, refused, run}

@@ -1,6 +1,7 @@
 -- What more bytes may change of a lookup: nothing, once its answer is any other than refusal 1. The
 -- header is read as before, and the bytes of its keys and strings are where they were. Assumes
 -- nothing.
+use Rattle.std.specs.Prelude.{if◌then◌else◌}
 use Prim.Native.Nat.{ℕ, ◌+◌}
 use mathlib.Core.Path.{◌≡◌, refl, sym, ap, subst, ◌∙◌}
 use mathlib.Core.List.{List, [], ◌∷◌, ◌++◌}
@@ -8,7 +9,6 @@ use mathlib.Core.Bool.{Bool, true, false}
 use native.Mathlib.Omega.{arith}
 use lib.Dec.{T}
 use lib.ListN.{length, get_or, length-append}
-use Rattle.reading.specs.Choice.{if◌then◌else◌}
 use Rattle.reading.specs.Back.{All}
 use Rattle.reading.specs.Each.{fold}
 use Rattle.reading.specs.Reading.{Answer, accepted, refused, run, seen, final}

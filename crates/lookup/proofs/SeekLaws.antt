@@ -1,5 +1,6 @@
 -- A search by a program: its turns, as a loop has them; and what it comes to, against reading all.
 -- Assumes nothing.
+use Rattle.std.specs.Prelude.{if◌then◌else◌}
 use Prim.Native.Nat.{ℕ, zero, suc, ◌+◌, ◌-◌, ◌≤◌, ◌<◌}
 use mathlib.Core.Path.{◌≡◌, refl, sym, ap, subst, ◌∙◌}
 use mathlib.Core.Bool.{Bool, true, false}
@@ -7,7 +8,6 @@ use mathlib.Core.List.{List, [], ◌∷◌, ◌++◌, map}
 use native.Mathlib.Omega.{arith}
 use lib.ListN.{length}
 use Rattle.reading.specs.Back.{All}
-use Rattle.reading.specs.Choice.{if◌then◌else◌}
 use Rattle.reading.specs.Each.{each, fold}
 use Rattle.reading.specs.Reading.{Reading, Answer, accepted, refused, run, ◌>>=◌, and_then, seen}
 use Rattle.reading.proofs.Repetition.{first_more, first_stops}

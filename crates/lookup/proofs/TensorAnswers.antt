@@ -1,5 +1,6 @@
 -- What the answer to the question for a tensor means, in terms of the full reader (ceilings 3 and
 -- 39), whatever its cap and its tables are. Assumes nothing.
+use Rattle.std.specs.Prelude.{if◌then◌else◌}
 use Prim.Native.Nat.{ℕ, suc, ◌+◌, ◌≤◌}
 use mathlib.Core.Path.{◌≡◌, refl, sym, ap, subst, ◌∙◌}
 use mathlib.Core.Bool.{Bool, true, false}
@@ -11,7 +12,6 @@ use lib.ListN.{length, take, drop, length-map}
 use lib.Seq.{take_at}
 use Rattle.reading.specs.Back.{All, Sure}
 use Rattle.reading.specs.Ceilings.{full}
-use Rattle.reading.specs.Choice.{if◌then◌else◌}
 use Rattle.reading.specs.Each.{each}
 use Rattle.reading.specs.Reading.{Answer, accepted, refused, run, seen, final}
 use Rattle.reading.specs.Refusals.{is_one_of, OneOf}

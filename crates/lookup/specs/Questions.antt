@@ -1,7 +1,6 @@
 -- Questions about a header: the value of a key, the string of a key, the file's type. Of equal keys
 -- the last decides.
-use Rattle.std.specs.Prelude.{ℕ, List, [], ◌∷◌, leb}
-use Rattle.reading.specs.Choice.{if◌then◌else◌}
+use Rattle.std.specs.Prelude.{ℕ, List, [], ◌∷◌, leb, if◌then◌else◌}
 use Rattle.reading.specs.Reading.{Answer, accepted, refused, run, seen}
 use Rattle.reading.specs.Each.{fold}
 use Rattle.reading.specs.Ceilings.{under, full}

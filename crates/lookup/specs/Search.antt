@@ -1,7 +1,6 @@
 -- A search from the front: through a list, and by a program that reads nothing after the first that
 -- is asked for.
-use Rattle.std.specs.Prelude.{ℕ, zero, suc, ◌+◌, Bool, List, [], ◌∷◌}
-use Rattle.reading.specs.Choice.{if◌then◌else◌}
+use Rattle.std.specs.Prelude.{ℕ, zero, suc, ◌+◌, Bool, List, [], ◌∷◌, if◌then◌else◌}
 use Rattle.reading.specs.Reading.{Reading, done, ◌>>=◌}
 
 -- what a search comes to: what was found, or that there is none; and how many were passed, the one

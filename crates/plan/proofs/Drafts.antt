@@ -1,5 +1,6 @@
 -- What a draft tells of a sheet that is well formed: its lists, how long its header is, and what
 -- the tests of the counts and of the room say of it. Assumes nothing.
+use Rattle.std.specs.Prelude.{if◌then◌else◌}
 use Prim.Native.Nat.{ℕ, ◌+◌, ◌-◌, ◌≤◌, ◌<◌}
 use mathlib.Core.Path.{◌≡◌, refl, sym, ap, subst, ◌∙◌}
 use mathlib.Core.Bool.{Bool, true, false}
@@ -9,7 +10,6 @@ use lib.Dec.{leb, eqb}
 use lib.ListN.{length, length-map}
 use borrow.Author.Tests.{le-leb, lt-leb, leb-true, leb-false, eqb-false}
 use Rattle.reading.specs.Back.{got, bytes_of_all}
-use Rattle.reading.specs.Choice.{if◌then◌else◌}
 use Rattle.reading.specs.Each.{times}
 use Rattle.fields.specs.Order.{before}
 use Rattle.reading.specs.Reading.{Answer, accepted, refused, run, is_accepted}

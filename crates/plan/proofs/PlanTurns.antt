@@ -1,5 +1,6 @@
 -- The turns of loops over a sheet's entries and its tensors, which are all there: what is taken
 -- from a room, what is said of the alignment, and what is laid. Assumes nothing.
+use Rattle.std.specs.Prelude.{if◌then◌else◌}
 use Prim.Native.Nat.{ℕ, suc, ◌+◌, ◌-◌, ◌*◌, ◌≤◌, ◌<◌}
 use mathlib.Core.Path.{◌≡◌, refl, sym, ap, subst, ◌∙◌}
 use mathlib.Core.Bool.{true}
@@ -9,7 +10,6 @@ use lib.Dec.{leb}
 use lib.ListN.{length, length-append}
 use borrow.Author.Tests.{leb-true}
 use Rattle.reading.specs.Back.{got, Sure, bytes_of_all}
-use Rattle.reading.specs.Choice.{if◌then◌else◌}
 use Rattle.reading.specs.Each.{times, fold}
 use Rattle.reading.specs.Reading.{Reading, accepted, run, is_accepted}
 use Rattle.reading.proofs.SureLaws.{sure_then, sure_done, sure_check, sure_so, whatever}

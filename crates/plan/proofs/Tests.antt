@@ -1,4 +1,5 @@
 -- What the tests of a writer say, one after the other. Assumes nothing.
+use Rattle.std.specs.Prelude.{if◌then◌else◌}
 use Prim.Native.Nat.{ℕ, ◌+◌, ◌%◌, ◌≤◌, ◌<◌}
 use mathlib.Core.Path.{◌≡◌, refl, sym, ap, ◌∙◌}
 use mathlib.Core.Bool.{Bool, true, false}
@@ -6,7 +7,7 @@ use mathlib.Core.List.{List, map}
 use native.Mathlib.Omega.{arith}
 use lib.ListN.{length}
 use borrow.Author.Tests.{eq-eqb, ne_eqb, le-leb, lt-leb}
-use Rattle.reading.specs.Choice.{if◌then◌else◌, require}
+use Rattle.reading.specs.Choice.{require}
 use Rattle.reading.specs.Reading.{Answer, accepted, refused, is_accepted}
 use Rattle.layout.specs.Layout.{layout_of}
 use Rattle.values.specs.declared.Dialect.{Dialect}

@@ -1,7 +1,6 @@
 -- The header that a sheet becomes: its entries with the alignment's own where that is added, and
 -- its tensors with their offsets.
-use Rattle.std.specs.Prelude.{ℕ, Bool, false, not, List, [], ◌∷◌, map, eqb, length}
-use Rattle.reading.specs.Choice.{if◌then◌else◌}
+use Rattle.std.specs.Prelude.{ℕ, Bool, false, not, List, [], ◌∷◌, map, eqb, length, if◌then◌else◌}
 use Rattle.reading.specs.Each.{fold}
 use Rattle.fields.specs.Order.{before}
 use Rattle.reading.specs.Reading.{Answer, accepted, refused}

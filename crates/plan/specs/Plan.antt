@@ -7,8 +7,8 @@
 --   35, 17, 13, 14, 15, 36  a tensor that can't be laid, with its number
 --   37  in version 1, a count above 2 ^ 32 - 1
 --   38  an output that is shorter than the start of the data
-use Rattle.std.specs.Prelude.{ℕ, max, Bool, true, List, map, leb, eqb, length}
-use Rattle.reading.specs.Choice.{if◌then◌else◌, require}
+use Rattle.std.specs.Prelude.{ℕ, max, Bool, true, List, map, leb, eqb, length, if◌then◌else◌}
+use Rattle.reading.specs.Choice.{require}
 use Rattle.reading.specs.Reading.{Answer, accepted, refused}
 use Rattle.layout.specs.Layout.{Layout, laid_out_from, refused_at, layout_of}
 use Rattle.values.specs.declared.Dialect.{Dialect}

@@ -1,7 +1,7 @@
 -- What the plan's private steps are held to: the tests of plan_for from one of them on, and what is
 -- left of a room. No contract of a public function cites it.
-use Rattle.std.specs.Prelude.{ℕ, ◌-◌, map, [], leb, length}
-use Rattle.reading.specs.Choice.{if◌then◌else◌, require}
+use Rattle.std.specs.Prelude.{ℕ, ◌-◌, map, [], leb, length, if◌then◌else◌}
+use Rattle.reading.specs.Choice.{require}
 use Rattle.layout.specs.Layout.{layout_of}
 use Rattle.values.specs.declared.Dialect.{Dialect}
 use Rattle.sheet.specs.Sheet.{Records}

@@ -2,8 +2,7 @@
 // has to know before it touches its output.
 #![tactic(auto)]
 
-ghost use Rattle.std.specs.Prelude.{◌≡◌, true, false, map, ℕ, suc, ◌+◌, ◌*◌, ◌≤◌, length};
-ghost use Rattle.reading.specs.Choice.{if◌then◌else◌};
+ghost use Rattle.std.specs.Prelude.{◌≡◌, true, false, map, ℕ, suc, ◌+◌, ◌*◌, ◌≤◌, length, if◌then◌else◌};
 ghost use Rattle.reading.specs.Reading.{run, is_accepted};
 ghost use Rattle.reading.specs.Each.{times};
 ghost use Rattle.reading.specs.Back.{got, bytes_of_all};

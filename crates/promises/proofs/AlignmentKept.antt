@@ -1,5 +1,6 @@
 -- The header of a sheet that can be written says the caller's alignment: by the entry that is
 -- added, by the sheet's own, or by none where it is 32. Assumes nothing.
+use Rattle.std.specs.Prelude.{if◌then◌else◌}
 use Prim.Native.Nat.{ℕ, ◌%◌, ◌^◌, ◌≤◌, ◌<◌}
 use mathlib.Core.Path.{◌≡◌, refl, sym, ap, subst, ◌∙◌}
 use mathlib.Core.Bool.{Bool, true, false, not}
@@ -9,7 +10,6 @@ use native.Mathlib.Nat.{mod-eq_of_lt}
 use borrow.Author.Tests.{leb-true, eqb-true, eqb-false}
 use lib.Dec.{leb, eqb}
 use Rattle.reading.specs.Back.{All}
-use Rattle.reading.specs.Choice.{if◌then◌else◌}
 use Rattle.reading.specs.Each.{fold}
 use Rattle.fields.specs.Order.{before}
 use Rattle.values.specs.Format.{is_word, alignment_key}

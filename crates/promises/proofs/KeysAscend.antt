@@ -1,12 +1,12 @@
 -- The keys of a header that was written ascend strictly, the added one in its place. Assumes
 -- nothing.
+use Rattle.std.specs.Prelude.{if◌then◌else◌}
 use Prim.Native.Nat.{ℕ}
 use mathlib.Core.Path.{◌≡◌, refl, sym, ap, subst}
 use mathlib.Core.Bool.{Bool, true, false}
 use mathlib.Core.List.{List, [], ◌∷◌, map}
 use lib.ListN.{length}
 use Rattle.reading.specs.Back.{All}
-use Rattle.reading.specs.Choice.{if◌then◌else◌}
 use Rattle.fields.specs.Order.{before}
 use Rattle.fields.proofs.Before.{clash, neither}
 use Rattle.reading.proofs.SureLaws.{all_map}

@@ -1,5 +1,6 @@
 -- A header that was planned can be written: each number fits its field, and what a reader tests
 -- holds. Assumes nothing.
+use Rattle.std.specs.Prelude.{if◌then◌else◌}
 use Prim.Native.Nat.{ℕ, suc, ◌%◌, ◌^◌, ◌≤◌, ◌<◌, max}
 use mathlib.Core.Path.{◌≡◌, refl, ap, subst, ◌∙◌}
 use mathlib.Core.Bool.{Bool, true, false}
@@ -11,7 +12,6 @@ use lib.Dec.{leb, eqb}
 use lib.ListN.{length, length-append}
 use Rattle.reading.specs.Back.{Along, All, bytes_of_all}
 use Rattle.fields.specs.Bytes.{Byte, Within}
-use Rattle.reading.specs.Choice.{if◌then◌else◌}
 use Rattle.fields.specs.Order.{before}
 use Rattle.reading.proofs.SureLaws.{all_map}
 use Rattle.kinds.specs.Shape.{greatest}

@@ -1,5 +1,6 @@
 -- A row that was listed says what was read: a scalar's word, cut to its width, is its bits again.
 -- Assumes nothing.
+use Rattle.std.specs.Prelude.{if◌then◌else◌}
 use Prim.Native.Nat.{ℕ, suc, ◌+◌, ◌-◌, ◌%◌, ◌^◌, ◌≤◌, ◌<◌}
 use mathlib.Core.Path.{◌≡◌, refl, ap}
 use mathlib.Core.Bool.{Bool, true, false, not}
@@ -11,7 +12,6 @@ use lib.ListN.{length}
 use borrow.Author.Tests.{ltb-true, ne_eqb}
 use mir.Syntax.{Width, w8, w16, w32, w64, w128}
 use mir.Val.{bits, hbits, of_z}
-use Rattle.reading.specs.Choice.{if◌then◌else◌}
 use Rattle.reading.specs.Back.{All, Sure}
 use Rattle.reading.specs.Reading.{Reading, accepted}
 use Rattle.reading.specs.declared.Limits.{Limits}

@@ -1,5 +1,6 @@
 -- Every refusal of the writer, of the layout and of the range check is one of those listed, at one
 -- of its places: each test refuses so, or leaves it to those after it. Assumes nothing.
+use Rattle.std.specs.Prelude.{if◌then◌else◌}
 use Prim.Native.Nat.{ℕ, zero, suc, ◌+◌, ◌^◌, ◌≤◌, ◌<◌, max}
 use mathlib.Core.Path.{◌≡◌, refl, subst}
 use mathlib.Core.Bool.{Bool, true, false}
@@ -11,7 +12,7 @@ use lib.ListN.{length, get_or, length-map}
 use Rattle.fields.specs.Bytes.{little, bytes_of}
 use Rattle.fields.specs.Value.{number}
 use Rattle.reading.specs.Back.{bytes_of_all, Sure}
-use Rattle.reading.specs.Choice.{if◌then◌else◌, require}
+use Rattle.reading.specs.Choice.{require}
 use Rattle.reading.specs.Each.{each, times}
 use Rattle.reading.specs.Reading.{Reading, Answer, accepted, refused, run, here, and_then, ◌>>=◌}
 use Rattle.reading.proofs.SureLaws.{sure_then, sure_done}

@@ -1,7 +1,6 @@
 -- The refusals of the writer, of the layout and of the range check: which numbers they are, how
 -- many places each may have, and that each of them is given.
-use Rattle.std.specs.Prelude.{ℕ, suc, ◌-◌, ◌^◌, ◌≤◌, ◌<◌, ◌≡◌, Bool, true, List, [], ◌∷◌, ◌++◌, eqb}
-use Rattle.reading.specs.Choice.{if◌then◌else◌}
+use Rattle.std.specs.Prelude.{ℕ, suc, ◌-◌, ◌^◌, ◌≤◌, ◌<◌, ◌≡◌, Bool, true, List, [], ◌∷◌, ◌++◌, eqb, if◌then◌else◌}
 use Rattle.reading.specs.Refusals.{is_one_of}
 use Rattle.values.specs.Format.{alignment_key}
 use Rattle.layout.specs.Layout.{refused_at, layout_of}

@@ -1,7 +1,6 @@
 -- What the rows of both tables say, seen through the bytes that they point into; and what it is for
 -- an answer and both tables to say a sheet.
-use Rattle.std.specs.Prelude.{ℕ, suc, ◌≡◌, List, map, eqb, length, take, drop}
-use Rattle.reading.specs.Choice.{if◌then◌else◌}
+use Rattle.std.specs.Prelude.{ℕ, suc, ◌≡◌, List, map, eqb, length, take, drop, if◌then◌else◌}
 use Rattle.reading.specs.Reading.{Answer, accepted, seen}
 use Rattle.rows.specs.Columns.{place_in, length_in, type_in, scalar_in, string_place_in, string_length_in, item_type_in, count_in, kept_in, first_item_in, kind_in, dimensions_in, first_length_in, second_length_in, third_length_in, fourth_length_in, offset_in, size_in}
 use Rattle.layout.specs.Placement.{Earliest}

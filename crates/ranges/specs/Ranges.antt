@@ -1,6 +1,5 @@
 -- Whether every tensor's data ends inside a file.
-use Rattle.std.specs.Prelude.{ℕ, suc, ◌+◌, List, [], ◌∷◌, leb}
-use Rattle.reading.specs.Choice.{if◌then◌else◌}
+use Rattle.std.specs.Prelude.{ℕ, suc, ◌+◌, List, [], ◌∷◌, leb, if◌then◌else◌}
 use Rattle.rows.specs.Columns.{offset_in, size_in}
 use Rattle.ranges.specs.declared.RangeCheck.{RangeCheck}
 use Rattle.ranges.specs.declared.RangeCheck.TheVariants.{Inside, Refused}

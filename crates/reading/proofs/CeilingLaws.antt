@@ -1,5 +1,6 @@
 -- What a reader with ceilings answers, from the marks and the answer of the whole format's reader.
 -- Assumes nothing.
+use Rattle.std.specs.Prelude.{if◌then◌else◌}
 use Prim.Native.Nat.{ℕ, zero, suc, ◌+◌}
 use mathlib.Core.Path.{◌≡◌, refl, sym, ap, ◌∙◌, fun_ext}
 use mathlib.Core.List.{List, [], ◌∷◌, ◌++◌}
@@ -8,7 +9,6 @@ use native.Mathlib.Omega.{arith}
 use lib.ListN.{length, take, drop}
 use lib.Dec.{leb}
 use Rattle.reading.specs.Ceilings.{ceiling, too_new, under, Mark, marks, within, or_too_new, all_within, FirstAbove, Low}
-use Rattle.reading.specs.Choice.{if◌then◌else◌}
 use Rattle.reading.specs.Each.{each}
 use Rattle.reading.specs.Pieces.{more}
 use Rattle.reading.specs.Reading.{Which, Reading, done, refuse, place, field, known, Answer, accepted, refused, run, ◌>>=◌, ◌>>◌, here, check, and_then}

@@ -1,5 +1,6 @@
 -- A program whose bytes come in pieces: the pieces give what the whole gives, and no more is kept
 -- than is looked at. Assumes nothing.
+use Rattle.std.specs.Prelude.{if◌then◌else◌}
 use Prim.Native.Nat.{ℕ, zero, suc, ◌+◌, ◌-◌, ◌≤◌, ◌<◌}
 use mathlib.Core.Path.{◌≡◌, refl, sym, ap, ◌∙◌}
 use mathlib.Core.List.{List, [], ◌∷◌, ◌++◌, append_assoc, append-nil}
@@ -10,7 +11,6 @@ use lib.ListN.{length, take, drop, length-append, length-drop, length-take}
 use lib.Seq.{drop-drop, take-append-le, take-append-add, drop-append-le, drop-append-add}
 use lib.Dec.{leb}
 use borrow.Author.Tests.{leb-true, leb-false, le-leb, lt-leb}
-use Rattle.reading.specs.Choice.{if◌then◌else◌}
 use Rattle.reading.specs.Pieces.{Stage, over, wants, feed, more, finish, mores, joined}
 use Rattle.reading.specs.Reading.{Reading, done, refuse, place, field, known, Answer, refused, run}
 

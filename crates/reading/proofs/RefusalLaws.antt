@@ -1,5 +1,6 @@
 -- With what number a program refuses, and where: one law for each constructor of a program,
 -- whatever a reader's ceilings. Assumes nothing.
+use Rattle.std.specs.Prelude.{if◌then◌else◌}
 use Prim.Native.Nat.{ℕ, zero, suc, ◌+◌, ◌≤◌}
 use mathlib.Core.Path.{◌≡◌, refl, ap, ◌∙◌}
 use mathlib.Core.List.{List, [], ◌∷◌}
@@ -9,7 +10,6 @@ use lib.ListN.{length}
 use lib.Dec.{leb, eqb}
 use borrow.Author.Tests.{eqb-true}
 use Rattle.reading.specs.Ceilings.{ceiling, too_new, under}
-use Rattle.reading.specs.Choice.{if◌then◌else◌}
 use Rattle.reading.specs.Each.{each}
 use Rattle.reading.specs.Reading.{Which, Reading, done, refuse, field, Answer, accepted, refused, run, ◌>>=◌, here, check, mark, and_then}
 use Rattle.reading.specs.Refusals.{is_one_of, OneOf, Refuses}

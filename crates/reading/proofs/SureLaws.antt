@@ -1,5 +1,6 @@
 -- What is sure of whatever a program accepts: one law for each constructor of a program, and one
 -- for a repetition. Assumes nothing.
+use Rattle.std.specs.Prelude.{if◌then◌else◌}
 use Prim.Native.Nat.{ℕ, zero, suc, ◌+◌, ◌≤◌}
 use mathlib.Core.Path.{◌≡◌, refl, sym, ap, subst, ◌∙◌}
 use mathlib.Core.List.{List, [], ◌∷◌, map}
@@ -10,7 +11,6 @@ use lib.Dec.{leb}
 use borrow.Author.Tests.{leb-true}
 use Rattle.reading.specs.Back.{got, items_there, Along, All, Sure}
 use Rattle.reading.specs.Ceilings.{under, marks}
-use Rattle.reading.specs.Choice.{if◌then◌else◌}
 use Rattle.reading.specs.Each.{each, times}
 use Rattle.reading.specs.Reading.{Which, Reading, done, refuse, field, known, accepted, refused, run, ◌>>=◌, ◌>>◌, here, check, seen}
 use Rattle.reading.proofs.CeilingLaws.{ceilings, let_through}

@@ -1,5 +1,6 @@
 -- So many fields of one width, one after the other, whatever they say: a division tells how many of
 -- them are there. Assumes nothing.
+use Rattle.std.specs.Prelude.{if◌then◌else◌}
 use Prim.Native.Nat.{ℕ, zero, suc, ◌+◌, ◌-◌, ◌*◌, ◌/◌, ◌≤◌, ◌<◌}
 use mathlib.Core.Path.{◌≡◌, refl, sym, ap, ◌∙◌}
 use mathlib.Core.Bool.{Bool, true, false}
@@ -9,7 +10,6 @@ use native.Mathlib.Nat.{suc-mul, div-mul-le_self, lt-div-mul-add, le-div_iff_mul
 use lib.ListN.{length, take, drop}
 use lib.Dec.{leb, leb-zero, leb-suc-zero, leb-suc-suc}
 use borrow.Author.Tests.{leb-true, leb-false, le-leb, lt-leb}
-use Rattle.reading.specs.Choice.{if◌then◌else◌}
 use Rattle.reading.specs.Each.{each, times}
 use Rattle.reading.specs.Reading.{Reading, done, field, accepted, refused, run, seen, passed}
 use Rattle.reading.proofs.Repetition.{times-first, times_none}

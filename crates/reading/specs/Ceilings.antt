@@ -1,7 +1,6 @@
 -- A reader of a format that takes only versions and kinds up to its ceilings.
-use Rattle.std.specs.Prelude.{ℕ, ◌+◌, List, [], ◌∷◌, ◌++◌, Bool, true, false, ◌≡◌, length, take, drop, leb}
+use Rattle.std.specs.Prelude.{ℕ, ◌+◌, List, [], ◌∷◌, ◌++◌, Bool, true, false, ◌≡◌, length, take, drop, leb, if◌then◌else◌}
 use Rattle.reading.specs.declared.Limits.{Limits}
-use Rattle.reading.specs.Choice.{if◌then◌else◌}
 use Rattle.reading.specs.Reading.{Which, a_version, a_kind, Reading, done, refuse, place, field, known, Answer, refused}
 
 -- the highest version, or the highest kind

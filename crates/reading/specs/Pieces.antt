@@ -1,6 +1,5 @@
 -- A program whose bytes come in pieces of any length.
-use Rattle.std.specs.Prelude.{ℕ, ◌+◌, ◌-◌, List, [], ◌∷◌, ◌++◌, length, take, drop, leb}
-use Rattle.reading.specs.Choice.{if◌then◌else◌}
+use Rattle.std.specs.Prelude.{ℕ, ◌+◌, ◌-◌, List, [], ◌∷◌, ◌++◌, length, take, drop, leb, if◌then◌else◌}
 use Rattle.reading.specs.Reading.{Reading, done, refuse, place, field, known, Answer, accepted, refused}
 
 -- The state between two pieces: an answer; or, in a field, what follows it, its place, how many of

@@ -1,6 +1,5 @@
 -- A format as a program of fields, and what running it over bytes finds.
-use Rattle.std.specs.Prelude.{ℕ, ◌+◌, List, Bool, true, false, not, length, take, drop, leb, eqb}
-use Rattle.reading.specs.Choice.{if◌then◌else◌}
+use Rattle.std.specs.Prelude.{ℕ, ◌+◌, List, Bool, true, false, not, length, take, drop, leb, eqb, if◌then◌else◌}
 
 -- what has a ceiling
 pub data Which : Type 0 where

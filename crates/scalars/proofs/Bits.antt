@@ -1,5 +1,6 @@
 -- A scalar's bits: those of its own width say it again, and so does what a reader kept of them.
 -- Assumes nothing.
+use Rattle.std.specs.Prelude.{if◌then◌else◌}
 use Prim.Native.Nat.{ℕ, suc, ◌%◌, ◌^◌, ◌≤◌, ◌<◌, zero}
 use mathlib.Core.Path.{◌≡◌, refl, sym, ap, ◌∙◌, subst}
 use mathlib.Core.Bool.{Bool, true, false, not}
@@ -9,7 +10,6 @@ use native.Mathlib.Nat.{mod-mod, mod-eq_of_lt}
 use mir.Val.{bits, hbits, of_z}
 use mir.Syntax.{Width, w8, w16, w32, w64}
 use borrow.Author.Tests.{eqb-true, eqb-false}
-use Rattle.reading.specs.Choice.{if◌then◌else◌}
 use Rattle.scalars.specs.Scalars.{scalar_bits, scalar_width, signed_of, scalar_of, FitsScalar, scalar_type}
 use Rattle.scalars.proofs.Complement.{signed_bits}
 use Rattle.scalars.proofs.Types.{◌&◌, below, Below}

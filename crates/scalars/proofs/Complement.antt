@@ -1,5 +1,6 @@
 -- Numbers below 0: the difference that turns a number over, and two's complement at any width.
 -- Assumes nothing.
+use Rattle.std.specs.Prelude.{if◌then◌else◌}
 use Prim.Native.Nat.{ℕ, zero, suc, ◌+◌, ◌-◌, ◌%◌, ◌^◌, ◌≤◌, ◌<◌}
 use mathlib.Core.Path.{◌≡◌, refl, ap, subst, ◌∙◌}
 use mathlib.Core.Bool.{Bool, true, false}
@@ -11,7 +12,6 @@ use mir.Syntax.{Width, w64}
 use mir.Val.{SFits, bits, hbits, of_z, to_z, sel}
 use mir.ValLaws.{pow-bits, Fits-wrap, to_z-Fits, to_z-of_z, of_z-to_z}
 use borrow.Author.Tests.{ltb-true, le-ltb}
-use Rattle.reading.specs.Choice.{if◌then◌else◌}
 use Rattle.scalars.specs.Scalars.{signed_of}
 
 -- -1 - z

@@ -1,11 +1,11 @@
 -- An integer scalar's number fits 64 bits: it is at most the bits that it was made of. Assumes
 -- nothing.
+use Rattle.std.specs.Prelude.{if◌then◌else◌}
 use Prim.Native.Nat.{ℕ, suc, ◌+◌, ◌-◌, ◌%◌, ◌^◌, ◌≤◌}
 use mathlib.Core.Bool.{Bool, true, false, not}
 use native.Mathlib.Omega.{arith}
 use lib.Dec.{eqb, ltb}
 use lib.IntN.{pos, negsuc}
-use Rattle.reading.specs.Choice.{if◌then◌else◌}
 use Rattle.kinds.specs.Shape.{greatest}
 use Rattle.scalars.specs.Scalars.{signed_of, scalar_of, not_below, natural_of}
 use Rattle.scalars.specs.declared.Natural.{Natural}

@@ -1,9 +1,8 @@
 -- Scalars: single values of eleven types. What bits stand for, which bits stand for a scalar, and
 -- its word in a row.
-use Rattle.std.specs.Prelude.{ℕ, suc, ◌%◌, ◌+◌, ◌^◌, ◌≤◌, ◌<◌, ◌-◌, ◌≡◌, not, List, [], ◌∷◌, eqb, ltb, ℤ, pos, negsuc, get_or}
+use Rattle.std.specs.Prelude.{ℕ, suc, ◌%◌, ◌+◌, ◌^◌, ◌≤◌, ◌<◌, ◌-◌, ◌≡◌, not, List, [], ◌∷◌, eqb, ltb, ℤ, pos, negsuc, get_or, if◌then◌else◌}
 use Rattle.std.specs.Int.{w8, w16, w32, w64}
 use Rattle.std.proofs.Common.{of_z}
-use Rattle.reading.specs.Choice.{if◌then◌else◌}
 use Rattle.fields.specs.Value.{width_of}
 use Rattle.fields.specs.Bytes.{Within}
 use Rattle.scalars.specs.declared.Scalar.{Scalar}

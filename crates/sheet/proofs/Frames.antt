@@ -1,5 +1,6 @@
 -- An entry in its frame: where its opening is bad, or its end is past the sheet, it is refused,
 -- whatever is inside. Assumes nothing.
+use Rattle.std.specs.Prelude.{if◌then◌else◌}
 use Prim.Native.Nat.{ℕ, ◌≤◌, ◌<◌, max}
 use mathlib.Core.Path.{◌≡◌, refl, sym, ◌∙◌}
 use mathlib.Core.List.{List}
@@ -8,7 +9,6 @@ use native.Mathlib.Omega.{arith}
 use lib.Dec.{leb, eqb}
 use lib.ListN.{length}
 use borrow.Author.Tests.{leb-false, ne_eqb}
-use Rattle.reading.specs.Choice.{if◌then◌else◌}
 use Rattle.reading.specs.Reading.{Reading, done, Answer, accepted, refused, run, ◌>>=◌, ◌>>◌, here, check, and_then}
 use Rattle.reading.proofs.RunLaws.{goes_on, run_bind, stops, inside}
 use Rattle.sheet.specs.Format.{opening, framed}

@@ -1,5 +1,6 @@
 -- Where the parts of an accepted entry stand, and what is read there: its key or name is inside the
 -- sheet, and its value can be read again. Assumes nothing.
+use Rattle.std.specs.Prelude.{if◌then◌else◌}
 use Prim.Native.Nat.{ℕ, zero, suc, ◌+◌, ◌*◌, ◌^◌, ◌≤◌, ◌<◌}
 use mathlib.Core.Path.{◌≡◌, refl, sym, ap, subst, ◌∙◌}
 use mathlib.Core.List.{List}
@@ -10,7 +11,6 @@ use lib.ListN.{length, take, drop}
 use lib.Seq.{take-take}
 use borrow.Author.Tests.{leb-true, eqb-true}
 use Rattle.reading.specs.Back.{Sure}
-use Rattle.reading.specs.Choice.{if◌then◌else◌}
 use Rattle.reading.specs.Reading.{Reading, done, refuse, place, field, known, Answer, accepted, refused, run, is_accepted}
 use Rattle.fields.specs.Value.{number, value as value_of}
 use Rattle.reading.proofs.RunLaws.{inside}

@@ -1,4 +1,5 @@
 -- A sheet is refused for one reason only, 31. Assumes nothing.
+use Rattle.std.specs.Prelude.{if◌then◌else◌}
 use Prim.Native.Nat.{ℕ, zero, suc}
 use mathlib.Core.Path.{◌≡◌}
 use mathlib.Core.Bool.{Bool, true, false}
@@ -6,7 +7,6 @@ use mathlib.Core.List.{List, [], ◌∷◌}
 use native.Mathlib.Omega.{arith}
 use lib.Dec.{eqb}
 use lib.ListN.{length, get_or}
-use Rattle.reading.specs.Choice.{if◌then◌else◌}
 use Rattle.reading.specs.Reading.{Reading, Answer, accepted, refused, run, and_then}
 use Rattle.sheet.specs.Format.{tensor}
 use Rattle.sheet.specs.Sheet.{consed, as_many_as, no_key, next, key_of, is_metadata, goes_on_with, entries_from, tensors_from, Records, sheet_of}

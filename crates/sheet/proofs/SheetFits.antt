@@ -1,5 +1,6 @@
 -- What a sheet says can be written in every dialect: each number fits its field, and texts are not
 -- too long. Assumes nothing.
+use Rattle.std.specs.Prelude.{if◌then◌else◌}
 use Prim.Native.Nat.{ℕ, zero, suc, ◌+◌, ◌-◌, ◌^◌, ◌≤◌, ◌<◌}
 use mathlib.Core.Path.{◌≡◌, refl, sym, subst, ◌∙◌}
 use mathlib.Core.List.{List}
@@ -10,7 +11,6 @@ use lib.ListN.{length, length-take}
 use borrow.Author.Tests.{leb-true, ltb-true, eqb-true}
 use Rattle.reading.specs.Back.{All, Sure}
 use Rattle.fields.specs.Bytes.{Byte, Within}
-use Rattle.reading.specs.Choice.{if◌then◌else◌}
 use Rattle.reading.specs.Reading.{Reading, accepted}
 use Rattle.reading.proofs.SureLaws.{sure_then, sure_done, sure_refuse, sure_here, sure_check, sure_if, sure_each, sure_so, whatever}
 use Rattle.fields.proofs.NumberFields.{sure_number}

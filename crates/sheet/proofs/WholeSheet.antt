@@ -1,6 +1,7 @@
 -- What an accepted sheet is: entries and tensors, each list as a repetition reads it, up to the
 -- sheet's end, with ascending keys. As many turns as there are bytes are enough, since every entry
 -- takes some. Assumes nothing.
+use Rattle.std.specs.Prelude.{if◌then◌else◌}
 use Prim.Native.Nat.{ℕ, zero, suc, ◌+◌, ◌≤◌, ◌<◌}
 use mathlib.Core.Path.{◌≡◌, refl, sym, ap, subst, ◌∙◌}
 use mathlib.Core.List.{List, [], ◌∷◌, map}
@@ -10,7 +11,6 @@ use lib.Dec.{eqb}
 use lib.ListN.{get_or-eq_default, length, get_or}
 use borrow.Author.Tests.{ltb-false, le-ltb, eqb-true}
 use Rattle.reading.specs.Back.{Along, Sure}
-use Rattle.reading.specs.Choice.{if◌then◌else◌}
 use Rattle.reading.specs.Each.{each, times}
 use Rattle.fields.specs.Order.{before}
 use Rattle.reading.specs.Reading.{Reading, Answer, accepted, refused, run, and_then}

@@ -4,8 +4,7 @@
 -- A program here reads what an entry says, as contents, and where its parts are. Whatever is not
 -- well formed is refused; the sheet gives it as refusal 31 at the start of the entry, so that no
 -- number or place of a refusal inside an entry matters.
-use Rattle.std.specs.Prelude.{ℕ, zero, suc, ◌+◌, ◌-◌, ◌^◌, Bool, true, false, List, leb, ltb, eqb}
-use Rattle.reading.specs.Choice.{if◌then◌else◌}
+use Rattle.std.specs.Prelude.{ℕ, zero, suc, ◌+◌, ◌-◌, ◌^◌, Bool, true, false, List, leb, ltb, eqb, if◌then◌else◌}
 use Rattle.reading.specs.Reading.{Reading, done, refuse, field, ◌>>=◌, ◌>>◌, here, check}
 use Rattle.reading.specs.Each.{times}
 use Rattle.fields.specs.Value.{number}

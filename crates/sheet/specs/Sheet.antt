@@ -1,7 +1,6 @@
 -- A record sheet: the version byte 1, the metadata entries with their keys in order, and the
 -- tensors, used up exactly.
-use Rattle.std.specs.Prelude.{ℕ, zero, suc, ◌+◌, Bool, true, List, [], ◌∷◌, ltb, eqb, length, get_or}
-use Rattle.reading.specs.Choice.{if◌then◌else◌}
+use Rattle.std.specs.Prelude.{ℕ, zero, suc, ◌+◌, Bool, true, List, [], ◌∷◌, ltb, eqb, length, get_or, if◌then◌else◌}
 use Rattle.fields.specs.Order.{before}
 use Rattle.reading.specs.Reading.{Reading, done, Answer, accepted, refused, run, ◌>>=◌, ◌>>◌, and_then}
 use Rattle.values.specs.Contents.{inside_of}

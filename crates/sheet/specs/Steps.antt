@@ -1,7 +1,6 @@
 -- What the sheet's private steps are held to: their answers, without what an entry says. No
 -- contract of a public function of this crate cites it.
-use Rattle.std.specs.Prelude.{ℕ, List, leb, length}
-use Rattle.reading.specs.Choice.{if◌then◌else◌}
+use Rattle.std.specs.Prelude.{ℕ, List, leb, length, if◌then◌else◌}
 use Rattle.reading.specs.Reading.{Answer, accepted, refused}
 use Rattle.tensors.specs.declared.Shape.{Shape}
 use Rattle.sheet.specs.declared.Stepped.{Stepped}

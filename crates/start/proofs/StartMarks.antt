@@ -1,5 +1,6 @@
 -- Ceilings before the first record: the magic and the counts have no mark, and no version is above
 -- 3. Assumes nothing.
+use Rattle.std.specs.Prelude.{if◌then◌else◌}
 use Prim.Native.Nat.{ℕ, ◌≤◌}
 use mathlib.Core.Path.{◌≡◌}
 use mathlib.Core.List.{List}
@@ -8,7 +9,6 @@ use native.Mathlib.Omega.{arith}
 use lib.Dec.{leb, eqb}
 use borrow.Author.Tests.{eqb-true, leb-true, le-leb}
 use Rattle.reading.specs.Ceilings.{Low, under}
-use Rattle.reading.specs.Choice.{if◌then◌else◌}
 use Rattle.reading.specs.Reading.{a_version, run}
 use Rattle.reading.proofs.CeilingLaws.{low_run, low_bind, low-done, low-here, low-mark, low-checked, low-refuse, low_if}
 use Rattle.fields.proofs.NumberFields.{low-number}

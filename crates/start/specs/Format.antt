@@ -5,8 +5,7 @@
 --    4  a version other than 1, 2 and 3, at the version; `mark` says that one was found known (5
 --       above a reader's ceiling)
 --    6  more tensors, or more entries, than rows, at that count, once both are read
-use Rattle.std.specs.Prelude.{ℕ, Bool, true, false, leb, eqb}
-use Rattle.reading.specs.Choice.{if◌then◌else◌}
+use Rattle.std.specs.Prelude.{ℕ, Bool, true, false, leb, eqb, if◌then◌else◌}
 use Rattle.reading.specs.Reading.{a_version, Reading, done, refuse, ◌>>=◌, ◌>>◌, here, check, mark}
 use Rattle.fields.specs.Value.{number}
 use Rattle.values.specs.declared.Dialect.{Dialect}

@@ -1,5 +1,6 @@
 -- The exported functions that take no rows never return 6, the number of 'more records than rows'.
 -- Assumes nothing.
+use Rattle.std.specs.Prelude.{if◌then◌else◌}
 use Prim.Native.Nat.{ℕ}
 use mathlib.Core.Path.{◌≡◌, refl, sym, ap, ◌∙◌}
 use mathlib.Core.List.{List, [], ◌∷◌}
@@ -14,7 +15,6 @@ use Rattle.reading.specs.declared.Limits.{Limits}
 use Rattle.reading.proofs.Repetition.{seen-refused}
 use mathlib.Core.Bool.{Bool, true, false}
 use lib.Dec.{leb}
-use Rattle.reading.specs.Choice.{if◌then◌else◌}
 use Rattle.scalars.specs.Scalars.{natural_of}
 use Rattle.scalars.specs.declared.Natural.{Natural}
 use Rattle.scalars.specs.declared.Natural.TheVariants.{Number, None as NoNumber}

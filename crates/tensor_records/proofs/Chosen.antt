@@ -1,9 +1,9 @@
 -- What a test chooses, by how it came out.
 -- Assumes nothing.
+use Rattle.std.specs.Prelude.{if◌then◌else◌}
 use mathlib.Core.Path.{◌≡◌, refl}
 use mathlib.Core.Bool.{Bool, true, false, not}
 use lib.Dec.{T}
-use Rattle.reading.specs.Choice.{if◌then◌else◌}
 
 pub held : (b : Bool) → T b → {A : Type 0} (x y : A) → (true ≡ b) × (x ≡ (if b then x else y))
 held true h x y = (refl, refl)

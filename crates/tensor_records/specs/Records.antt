@@ -1,6 +1,5 @@
 -- A row as a record, and what the functions over a slice of records answer and leave there.
-use Rattle.std.specs.Prelude.{ℕ, Bool, List, [], ◌∷◌, ltb, length, get_or, set, take}
-use Rattle.reading.specs.Choice.{if◌then◌else◌}
+use Rattle.std.specs.Prelude.{ℕ, Bool, List, [], ◌∷◌, ltb, length, get_or, set, take, if◌then◌else◌}
 use Rattle.reading.specs.Reading.{Answer}
 use Rattle.reading.specs.declared.Limits.{Limits}
 use Rattle.tensors.specs.Rows.{tensor_row}

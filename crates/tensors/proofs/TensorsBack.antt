@@ -1,4 +1,5 @@
 -- What is written of a tensor is read back: each part by the laws of its fields. Assumes nothing.
+use Rattle.std.specs.Prelude.{if◌then◌else◌}
 use Prim.Native.Nat.{ℕ, ◌+◌}
 use mathlib.Core.Path.{◌≡◌, refl, sym, ap}
 use mathlib.Core.List.{List, [], ◌∷◌, ◌++◌, map, append_assoc}
@@ -9,7 +10,6 @@ use lib.Dec.{ltb}
 use borrow.Author.Tests.{le-leb, ltb-false}
 use Rattle.reading.specs.Back.{same, Back, Along, bytes_of_all}
 use Rattle.fields.specs.Bytes.{bytes_of, Within}
-use Rattle.reading.specs.Choice.{if◌then◌else◌}
 use Rattle.reading.specs.Each.{each}
 use Rattle.reading.specs.Pieces.{more}
 use Rattle.reading.specs.Reading.{done}

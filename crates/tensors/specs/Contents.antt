@@ -3,8 +3,7 @@
 --
 -- Beside each form of `Format` stand its bytes and its view, with the same fields in the same
 -- order.
-use Rattle.std.specs.Prelude.{ℕ, ◌+◌, ◌≤◌, ◌≡◌, true, List, [], ◌++◌, ltb}
-use Rattle.reading.specs.Choice.{if◌then◌else◌}
+use Rattle.std.specs.Prelude.{ℕ, ◌+◌, ◌≤◌, ◌≡◌, true, List, [], ◌++◌, ltb, if◌then◌else◌}
 use Rattle.fields.specs.Bytes.{bytes_of, Within}
 use Rattle.kinds.specs.Table.{known_kind}
 use Rattle.kinds.specs.Shape.{greatest, first_length, whole_blocks, product_of, products_fit, size_within, size_of}

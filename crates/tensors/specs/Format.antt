@@ -7,8 +7,7 @@
 --   13  a product of lengths above 2 ^ 64 - 1, at the tensor's start
 --   14  a size before its division above 2 ^ 64 - 1, at the tensor's start
 --   15  a running total of products above 2 ^ 64 - 1, at the tensor's start
-use Rattle.std.specs.Prelude.{ℕ, ◌+◌, ◌*◌, List, [], ◌∷◌, leb, ltb}
-use Rattle.reading.specs.Choice.{if◌then◌else◌}
+use Rattle.std.specs.Prelude.{ℕ, ◌+◌, ◌*◌, List, [], ◌∷◌, leb, ltb, if◌then◌else◌}
 use Rattle.reading.specs.Reading.{a_kind, Reading, done, ◌>>=◌, ◌>>◌, here, check, mark}
 use Rattle.fields.specs.Value.{number}
 use Rattle.kinds.specs.Table.{known_kind}

@@ -1,6 +1,5 @@
 -- What the steps that read a tensor again are held to. No contract of a step that tests cites it.
-use Rattle.std.specs.Prelude.{ℕ, ◌+◌, ◌*◌, Bool, false, List, ltb, take, drop}
-use Rattle.reading.specs.Choice.{if◌then◌else◌}
+use Rattle.std.specs.Prelude.{ℕ, ◌+◌, ◌*◌, Bool, false, List, ltb, take, drop, if◌then◌else◌}
 use Rattle.reading.specs.Reading.{Reading, done, ◌>>=◌, here}
 use Rattle.fields.specs.Value.{value}
 use Rattle.kinds.specs.Shape.{product_of, size_of}

@@ -1,4 +1,5 @@
 -- A number of 64 bits in decimal reads back as that number. Assumes nothing.
+use Rattle.std.specs.Prelude.{if◌then◌else◌}
 use Prim.Native.Nat.{ℕ, zero, suc, ◌+◌, ◌*◌, ◌/◌, ◌%◌, ◌^◌, ◌<◌}
 use mathlib.Core.Path.{◌≡◌, refl, ap, ◌∙◌}
 use mathlib.Core.Bool.{Bool, true, false}
@@ -8,7 +9,6 @@ use native.Mathlib.Nat.{pow-suc}
 use lib.Dec.{ltb}
 use lib.ListN.{length, length-append}
 use borrow.Author.Tests.{ltb-true, le-leb, lt-ltb}
-use Rattle.reading.specs.Choice.{if◌then◌else◌}
 use Rattle.text_out.specs.Words.{digits, decimal}
 use Rattle.text_in.specs.Decimal.{is_digit, with_digit, number_from, number_of}
 use Rattle.text_in.specs.declared.TextNumber.{TextNumber}

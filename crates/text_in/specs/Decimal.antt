@@ -1,6 +1,5 @@
 -- The number that a text says in decimal.
-use Rattle.std.specs.Prelude.{ℕ, ◌+◌, ◌-◌, ◌*◌, ◌^◌, List, [], ◌∷◌, Bool, false, leb, ltb}
-use Rattle.reading.specs.Choice.{if◌then◌else◌}
+use Rattle.std.specs.Prelude.{ℕ, ◌+◌, ◌-◌, ◌*◌, ◌^◌, List, [], ◌∷◌, Bool, false, leb, ltb, if◌then◌else◌}
 use Rattle.text_in.specs.declared.TextNumber.{TextNumber}
 use Rattle.text_in.specs.declared.TextNumber.TheVariants.{Number, Unclear}
 

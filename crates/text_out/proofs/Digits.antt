@@ -1,4 +1,5 @@
 -- Turns of the digits of a number, the last one first. Assumes nothing.
+use Rattle.std.specs.Prelude.{if◌then◌else◌}
 use Prim.Native.Nat.{ℕ, zero, suc, ◌+◌, ◌-◌, ◌*◌, ◌/◌, ◌%◌, ◌^◌, ◌≤◌, ◌<◌}
 use mathlib.Core.Path.{◌≡◌, refl, ◌∙◌}
 use mathlib.Core.Bool.{Bool, true, false}
@@ -9,7 +10,6 @@ use native.Mathlib.Nat.{pow-suc}
 use lib.Dec.{ltb}
 use lib.ListN.{length, drop, set}
 use borrow.Author.Tests.{lt-ltb, le-ltb, ltb-true}
-use Rattle.reading.specs.Choice.{if◌then◌else◌}
 use Rattle.fields.proofs.Bytes.{drop-set}
 use Rattle.text_out.specs.Words.{digits, decimal}
 

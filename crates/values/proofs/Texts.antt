@@ -1,5 +1,6 @@
 -- Sizes and texts: where they end, what is looked at of them, and how a word is compared. Assumes
 -- nothing.
+use Rattle.std.specs.Prelude.{if◌then◌else◌}
 use Rattle.values.specs.Contents.{inside_of}
 use Prim.Native.Nat.{ℕ, zero, suc, ◌+◌, ◌^◌, ◌≤◌, ◌<◌, min}
 use mathlib.Core.Path.{◌≡◌, refl, sym, ap, ◌∙◌}
@@ -12,7 +13,6 @@ use lib.Seq.{drop-cons, length-take-le, take_all}
 use lib.Dec.{leb, eqb}
 use borrow.Author.Tests.{leb-true, leb-false, eq-eqb, ne_eqb, le-leb}
 use Rattle.reading.specs.Back.{same, Sure}
-use Rattle.reading.specs.Choice.{if◌then◌else◌}
 use Rattle.reading.specs.Reading.{Reading, done, place, field, Answer, accepted, refused, run, ◌>>=◌, ◌>>◌, here, check, and_then}
 use Rattle.reading.proofs.RunLaws.{run_bind}
 use Rattle.reading.proofs.SureLaws.{sure_then, sure_here, sure_check, sure_field, whatever}

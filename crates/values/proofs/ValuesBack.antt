@@ -1,4 +1,5 @@
 -- What is written of an entry is read back: each part by the laws of its fields. Assumes nothing.
+use Rattle.std.specs.Prelude.{if◌then◌else◌}
 use Prim.Native.Nat.{ℕ, zero, suc, ◌^◌, ◌≤◌, ◌<◌}
 use mathlib.Core.Path.{◌≡◌, refl, ap, ◌∙◌}
 use mathlib.Core.List.{List, [], ◌∷◌, ◌++◌, map, append_assoc}
@@ -8,7 +9,6 @@ use lib.ListN.{length, take}
 use lib.Dec.{eqb}
 use borrow.Author.Tests.{le-leb, lt-ltb}
 use Rattle.reading.specs.Back.{same, Back, All, bytes_of_all}
-use Rattle.reading.specs.Choice.{if◌then◌else◌}
 use Rattle.reading.specs.Each.{each, times}
 use Rattle.values.specs.Format.{value, size_width, size, text_looking, text, is_word, alignment_key, tokenizer_key, key_of, key, type, value_of, array, depth, keeping, entry}
 use Rattle.scalars.specs.Scalars.{scalar_width, scalar_of, scalar_bits, scalar_type}

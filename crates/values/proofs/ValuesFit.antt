@@ -1,4 +1,5 @@
 -- What is accepted fits: whatever entry a reader accepts can be written. Assumes nothing.
+use Rattle.std.specs.Prelude.{if◌then◌else◌}
 use Prim.Native.Nat.{ℕ, zero, suc, ◌^◌, ◌≤◌, ◌<◌}
 use mathlib.Core.Path.{◌≡◌, sym, ap, subst}
 use mathlib.Core.List.{List, map}
@@ -9,7 +10,6 @@ use lib.Dec.{leb, eqb, ltb}
 use borrow.Author.Tests.{leb-true, ltb-true, eqb-true}
 use Rattle.reading.specs.Back.{All, Sure}
 use Rattle.fields.specs.Bytes.{Byte, Within}
-use Rattle.reading.specs.Choice.{if◌then◌else◌}
 use Rattle.reading.specs.Each.{each, times}
 use Rattle.reading.specs.Reading.{Reading, done, refuse, place, accepted, run, ◌>>=◌}
 use Rattle.values.specs.Format.{value, size_width, size, text_looking, text, is_word, alignment_key, tokenizer_key, key_of, key, value_of, array, depth, entry}

@@ -3,8 +3,7 @@
 --
 -- Beside each form of `Format` stand its bytes and its view, with the same fields in the same
 -- order.
-use Rattle.std.specs.Prelude.{ℕ, zero, suc, ◌+◌, ◌^◌, ◌≤◌, ◌<◌, ◌≡◌, Bool, List, [], ◌++◌, leb, length, take, drop}
-use Rattle.reading.specs.Choice.{if◌then◌else◌}
+use Rattle.std.specs.Prelude.{ℕ, zero, suc, ◌+◌, ◌^◌, ◌≤◌, ◌<◌, ◌≡◌, Bool, List, [], ◌++◌, leb, length, take, drop, if◌then◌else◌}
 use Rattle.reading.specs.Reading.{Reading, refuse}
 use Rattle.fields.specs.Bytes.{bytes_of, Within}
 use Rattle.reading.specs.Back.{bytes_of_all, items_there, All}

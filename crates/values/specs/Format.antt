@@ -7,8 +7,7 @@
 --    7  a text of more than 2 ^ 30 bytes, at its size
 --    8  a value type or an item type above 12, at the type
 --    9  an item that is an array where four stand in one another already, at the item type
-use Rattle.std.specs.Prelude.{ℕ, zero, suc, ◌^◌, min, Bool, true, false, List, [], ◌∷◌, leb, ltb, eqb, length}
-use Rattle.reading.specs.Choice.{if◌then◌else◌}
+use Rattle.std.specs.Prelude.{ℕ, zero, suc, ◌^◌, min, Bool, true, false, List, [], ◌∷◌, leb, ltb, eqb, length, if◌then◌else◌}
 use Rattle.reading.specs.Reading.{Reading, done, refuse, field, ◌>>=◌, ◌>>◌, here, check}
 use Rattle.reading.specs.Each.{times}
 use Rattle.fields.specs.Value.{number}

@@ -1,10 +1,10 @@
 -- The number of a byte order says the form: what a header's words tell of it is what a writer is to
 -- be asked for to have the same form again. Assumes nothing.
+use Rattle.std.specs.Prelude.{if◌then◌else◌}
 use Prim.Native.Nat.{ℕ}
 use mathlib.Core.Path.{◌≡◌, refl}
 use mathlib.Core.Bool.{Bool, true, false}
 use native.Mathlib.Omega.{arith}
-use Rattle.reading.specs.Choice.{if◌then◌else◌}
 use Rattle.start.specs.Format.{known_dialect}
 use Rattle.header.specs.declared.Header.{Header}
 use Rattle.header.specs.Contents.{dialect_in}

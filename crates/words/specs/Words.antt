@@ -1,6 +1,5 @@
 -- What the exported functions answer, as numbers: one that they return, and eight words.
-use Rattle.std.specs.Prelude.{ℕ, List, [], ◌∷◌, ◌++◌, ltb, eqb, get_or}
-use Rattle.reading.specs.Choice.{if◌then◌else◌}
+use Rattle.std.specs.Prelude.{ℕ, List, [], ◌∷◌, ◌++◌, ltb, eqb, get_or, if◌then◌else◌}
 use Rattle.reading.specs.Reading.{Answer, accepted, refused, run, seen}
 use Rattle.reading.specs.Ceilings.{under}
 use Rattle.reading.specs.declared.Limits.{Limits}

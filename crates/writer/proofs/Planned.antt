@@ -1,5 +1,6 @@
 -- What a plan tells: that every test of the sheet held, and what the header is made of. Assumes
 -- nothing.
+use Rattle.std.specs.Prelude.{if◌then◌else◌}
 use Prim.Native.Nat.{ℕ, zero, suc, ◌+◌, ◌-◌, ◌≤◌, ◌<◌, max}
 use mathlib.Core.Path.{◌≡◌, refl, sym, ap, ◌∙◌}
 use mathlib.Core.Bool.{Bool, true, false}
@@ -10,7 +11,7 @@ use lib.Dec.{leb}
 use lib.ListN.{length, drop, replicate, length-append, length-replicate}
 use Rattle.reading.specs.Back.{got, bytes_of_all}
 use Rattle.fields.specs.Bytes.{Wrote}
-use Rattle.reading.specs.Choice.{if◌then◌else◌, require}
+use Rattle.reading.specs.Choice.{require}
 use Rattle.reading.specs.Each.{each, times}
 use Rattle.reading.specs.Reading.{Answer, accepted, refused, run, is_accepted, done, ◌>>=◌}
 use Rattle.reading.proofs.RunLaws.{bind_inv}

@@ -1,11 +1,11 @@
 -- A scalar that is there, from the number that is read at its place. Assumes nothing.
+use Rattle.std.specs.Prelude.{if◌then◌else◌}
 use Prim.Native.Nat.{ℕ}
 use mathlib.Core.Path.{◌≡◌, refl, sym, ap, ◌∙◌}
 use mathlib.Core.Bool.{Bool, true, false}
 use mathlib.Core.List.{List}
 use native.Mathlib.Omega.{arith}
 use lib.Dec.{leb, eqb}
-use Rattle.reading.specs.Choice.{if◌then◌else◌}
 use Rattle.reading.specs.Reading.{accepted, refused, run, is_accepted, check, done, ◌>>◌, ◌>>=◌}
 use Rattle.fields.specs.Value.{number}
 use Rattle.reading.proofs.RunLaws.{goes_on, stops}

@@ -1,7 +1,6 @@
 -- What the writer's private steps are held to: sizes and counts of what they write. No contract of
 -- a public function cites it.
-use Rattle.std.specs.Prelude.{ℕ, suc, ◌+◌, List, [], ◌∷◌, ltb}
-use Rattle.reading.specs.Choice.{if◌then◌else◌}
+use Rattle.std.specs.Prelude.{ℕ, suc, ◌+◌, List, [], ◌∷◌, ltb, if◌then◌else◌}
 use Rattle.fields.specs.Order.{before}
 use Rattle.reading.specs.Reading.{Answer, accepted, refused}
 use Rattle.values.specs.Format.{alignment_key}

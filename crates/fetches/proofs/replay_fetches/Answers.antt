@@ -11,7 +11,7 @@ use Rattle.fetches.proofs.Fills.{no_room, trace-refused, trace-answered}
 use Rattle.fetches.proofs.replay_fetches.Goals.{In_default}
 use Rattle.fetches.proofs.replay_fetches.Goals as goal
 
--- what a well_formed trace tells, typed by the place where the table is filled
+-- what a well-formed trace tells, typed by the place where the table is filled
 abbrev Told : (c : In_default) → Type 0
 Told c =
     let a = c.args in

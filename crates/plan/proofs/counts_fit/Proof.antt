@@ -1,10 +1,10 @@
 -- `plan::counts_fit` meets its contract: in version 1 the greatest count of entries leaves room for
 -- the one that is added. Assumes nothing.
+use Rattle.std.specs.Prelude.{if◌then◌else◌}
 use Prim.Native.Nat.{◌+◌}
 use mathlib.Core.Path.{◌≡◌}
 use mathlib.Core.Logic.{⊎_elim}
 use borrow.Author.Tests.{ne_eqb}
-use Rattle.reading.specs.Choice.{if◌then◌else◌}
 use Rattle.plan.proofs.Counts.{counts-over, counts-rest}
 use Rattle.plan.proofs.counts_fit.Statement.{statement}
 use Rattle.plan.proofs.counts_fit.Tie as tie

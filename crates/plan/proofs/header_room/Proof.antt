@@ -1,11 +1,11 @@
 -- `plan::header_room` meets its contract: what stands before the records, the added entry with it,
 -- then the entries, then the tensors are taken. Assumes nothing.
+use Rattle.std.specs.Prelude.{if◌then◌else◌}
 use borrow.Author.Rules.{rules}
 use Prim.Native.Nat.{◌+◌, ◌≤◌}
 use mathlib.Core.Path.{◌≡◌}
 use mathlib.Core.Logic.{⊎_elim}
 use native.Mathlib.Omega.{arith}
-use Rattle.reading.specs.Choice.{if◌then◌else◌}
 use Rattle.layout.specs.Layout.{nothing_laid}
 use Rattle.values.specs.Format.{size_width}
 use Rattle.plan.proofs.PartLengths.{size_cases}

@@ -12,7 +12,6 @@ use Prim.Native.Nat.{suc, ◌+◌, ◌%◌}
 use mathlib.Core.Path.{◌≡◌}
 use mathlib.Core.List.{[], ◌∷◌}
 
-
 pub loop-at-preserved : goal.loop-at-preserved
 loop-at-preserved c =
     let l = c.loop-at in
@@ -23,9 +22,9 @@ unfolding decimal
 returns-clause-places_after c =
     let l = c.loop-at in
     let one : digits (suc l.at) l.rest ≡ (48 + l.rest % 10) ∷ [] =
-        elim c.loop-at-test.branch [
-          then-loop-at-test+else-rest-gt9 w ↦ one_digit l.at l.rest w.if-rest-gt9.false
-        | else-loop-at-test w ↦ one_place l.at l.rest (omega arith)
-        ]
+    elim c.loop-at-test.branch [
+      | then-loop-at-test+else-rest-gt9 w ↦ one_digit l.at l.rest w.if-rest-gt9.false
+      | else-loop-at-test w ↦ one_place l.at l.rest (omega arith)
+    ]
     in
     digits-end l.at l.rest l.places (omega arith) one ∙ sym l.invariant.2

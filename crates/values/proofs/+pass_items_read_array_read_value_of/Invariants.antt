@@ -20,7 +20,7 @@ abbrev pub invariant-pass_items-loop-i : goal.invariant-pass_items-loop-i
 invariant-pass_items-loop-i l =
     (l.i ≤ l.n)
     × (passed (run (times l.n (value_of (array l.depth l.dialect) l.dialect l.o l.t)) l.s l.at)
-       ≡ passed (run (times (l.n - l.i) (value_of (array l.depth l.dialect) l.dialect l.o l.t)) l.s l.from))
+    ≡ passed (run (times (l.n - l.i) (value_of (array l.depth l.dialect) l.dialect l.o l.t)) l.s l.from))
 
 abbrev pub decreases-pass_items-loop-i : goal.decreases-pass_items-loop-i
 decreases-pass_items-loop-i l = l.n - l.i

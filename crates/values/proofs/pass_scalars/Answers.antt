@@ -1,4 +1,5 @@
 -- `values::pass_scalars` meets its contract, by the law of numbers of one width. Assumes nothing.
+use Rattle.std.specs.Prelude.{if◌then◌else◌}
 use Prim.Native.Nat.{ℕ, ◌+◌, ◌-◌, ◌*◌, ◌/◌, ◌≤◌, ◌<◌}
 use mathlib.Core.Path.{◌≡◌, sym, ap, ◌∙◌}
 use mathlib.Core.Bool.{Bool}
@@ -8,7 +9,6 @@ use native.Mathlib.Nat.{div-lt_iff_lt-mul, div-mul-le_self, mul-le-mul_right}
 use lib.Dec.{leb}
 use lib.ListN.{length}
 use borrow.Author.Tests.{le-leb, lt-leb}
-use Rattle.reading.specs.Choice.{if◌then◌else◌}
 use Rattle.reading.specs.Each.{times}
 use Rattle.reading.specs.Reading.{accepted, refused, run, passed}
 use Rattle.fields.specs.Value.{number}
