@@ -25,7 +25,7 @@ use Rattle.values.proofs.ValuesBack.{entries-back}
 use Rattle.layout.specs.Padding.{is_multiple, padded}
 use Rattle.header.specs.Contents.{Contents, start_in, header_bytes, alignment_in, Summary, summary_of, summary_in, FitsContents}
 use Rattle.start.specs.Contents.{start_bytes}
-use Rattle.start.specs.Format.{version, start}
+use Rattle.start.specs.Format.{start}
 use Rattle.header.specs.Format.{latest, is_aligned, judged, header}
 use Rattle.header.proofs.HeaderCeilings.{full_reader}
 use Rattle.header.proofs.AlignmentFound.{sure_entries_say, same-alignment, same_entries}

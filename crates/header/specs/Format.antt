@@ -18,7 +18,7 @@ use Rattle.tensors.specs.Format.{tensor, offset_place, total_of}
 use Rattle.start.specs.declared.Rooms.{Rooms}
 use Rattle.start.specs.declared.Start.{Start}
 use Rattle.header.specs.declared.Header.{Header}
-use Rattle.start.specs.Format.{version, start}
+use Rattle.start.specs.Format.{start}
 use Rattle.scalars.specs.Scalars.{natural_of}
 use Rattle.scalars.specs.declared.Natural.{Natural}
 use Rattle.scalars.specs.declared.Natural.TheVariants.{Number, None as NoNumber}

@@ -12,7 +12,7 @@ use borrow.Author.Tests.{le-leb}
 use Rattle.reading.specs.Back.{Stands, same, Back, got, items_there, Along, All, bytes_of_all}
 use Rattle.reading.specs.Each.{each, times}
 use Rattle.reading.specs.Reading.{Which, Reading, done, field, known, Answer, accepted, refused, run, ◌>>=◌, ◌>>◌, here, check, and_then, seen}
-use Rattle.reading.proofs.RunLaws.{run_bind, inside}
+use Rattle.reading.proofs.RunLaws.{run_bind}
 
 -- the front, and what stands after it
 pub front : {s : List ℕ} {p : ℕ} (l k : List ℕ) → Stands s p (l ++ k) → Stands s p l

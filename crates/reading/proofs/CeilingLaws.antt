@@ -10,7 +10,6 @@ use lib.ListN.{length, take, drop}
 use lib.Dec.{leb}
 use Rattle.reading.specs.Ceilings.{ceiling, too_new, under, Mark, marks, within, or_too_new, all_within, FirstAbove, Low}
 use Rattle.reading.specs.Each.{each}
-use Rattle.reading.specs.Pieces.{more}
 use Rattle.reading.specs.Reading.{Which, Reading, done, refuse, place, field, known, Answer, accepted, refused, run, ◌>>=◌, ◌>>◌, here, check, and_then}
 use Rattle.reading.proofs.RunLaws.{run_bind}
 use Rattle.reading.specs.declared.Limits.{Limits}

@@ -8,7 +8,6 @@ use native.Mathlib.Omega.{arith}
 use native.Mathlib.Numerals.{add-one}
 use lib.ListN.{length, take, drop, set, take-append-drop}
 use lib.Seq.{drop-drop, take-suc-set, drop-set-lt}
-use lib.Dec.{T}
 use Rattle.reading.specs.Back.{got, bytes_of_all}
 use Rattle.reading.specs.Each.{each, times, fold, filled}
 use Rattle.reading.specs.Reading.{Reading, done, Answer, accepted, refused, run, ◌>>=◌, and_then, seen, passed, is_accepted}

@@ -14,8 +14,6 @@ use Rattle.scalars.specs.Scalars.{scalar_bits, scalar_width, signed_of, scalar_o
 use Rattle.scalars.proofs.Complement.{signed_bits}
 use Rattle.scalars.proofs.Types.{◌&◌, below, Below}
 use Rattle.scalars.specs.declared.Scalar.TheVariants.{U8, I8, U16, I16, U32, I32, F32, Bool as Truth, U64, I64, F64}
-use Rattle.reading.specs.Ceilings.{within}
-use Rattle.reading.specs.Reading.{known}
 
 -- the low bits of low bits, and of the two's complement of those
 twice : (w : Width) (n : ℕ) → n % 2 ^ bits w % 2 ^ bits w ≡ n % 2 ^ bits w

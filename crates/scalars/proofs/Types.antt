@@ -6,7 +6,6 @@ use native.Mathlib.Omega.{arith}
 use lib.ListN.{get_or-eq_default, length}
 use lib.Dec.{leb, eqb, ltb}
 use borrow.Author.Tests.{leb-true, leb-false}
-use Rattle.kinds.proofs.KindTable.{past}
 use Rattle.scalars.specs.Scalars.{scalar_widths, scalar_width, scalar_of, scalar_type}
 
 -- every number below n is as P says

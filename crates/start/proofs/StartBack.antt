@@ -12,7 +12,7 @@ use Rattle.fields.proofs.NumberFields.{number-back}
 use Rattle.values.specs.Contents.{size_bytes}
 use Rattle.values.specs.Format.{size_width}
 use Rattle.values.proofs.ValuesBack.{size_back}
-use Rattle.start.specs.Format.{little_magic, big_magic, magic, known_version, known_dialect, turned_three, dialect_by, version, counts}
+use Rattle.start.specs.Format.{little_magic, big_magic, magic, known_dialect, turned_three, dialect_by, version, counts}
 use Rattle.start.proofs.StartMarks.{version-small}
 use Rattle.start.specs.declared.Rooms.{Rooms}
 use Rattle.values.specs.declared.Dialect.{Dialect}

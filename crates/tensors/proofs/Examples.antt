@@ -4,7 +4,7 @@ use Rattle.values.specs.declared.Dialect.{Dialect}
 use Prim.Native.Nat.{ℕ}
 use mathlib.Core.Path.{◌≡◌, refl}
 use mathlib.Core.List.{List, [], ◌∷◌}
-use Rattle.reading.specs.Reading.{place, accepted, refused, run, here, ◌>>=◌}
+use Rattle.reading.specs.Reading.{accepted, refused, run, here, ◌>>=◌}
 use Rattle.values.specs.Format.{size, text_looking, text}
 use Rattle.tensors.specs.Format.{length_at, lengths_of, shape, kind_and_offset, tensor}
 use Rattle.fields.specs.Value.{number}

@@ -11,10 +11,8 @@ use borrow.Author.Tests.{le-leb, ltb-false}
 use Rattle.reading.specs.Back.{same, Back, Along, bytes_of_all}
 use Rattle.fields.specs.Bytes.{bytes_of, Within}
 use Rattle.reading.specs.Each.{each}
-use Rattle.reading.specs.Pieces.{more}
 use Rattle.reading.specs.Reading.{done}
 use Rattle.tensors.specs.Format.{lengths, length_at, lengths_of, shape, kind_and_offset, tensor, total_of}
-use Rattle.values.specs.Format.{size}
 use Rattle.fields.specs.Value.{number}
 use Rattle.reading.proofs.BackLaws.{follows, ends, exactly, closes, at_place, nothing_more, marked-then, checked, then-shown}
 use Rattle.fields.proofs.NumberFields.{number-back}

@@ -9,11 +9,8 @@ use lib.Dec.{leb, ltb}
 use borrow.Author.Tests.{leb-true, ltb-true}
 use Rattle.reading.specs.Back.{Along, All, Sure}
 use Rattle.fields.specs.Bytes.{Byte, Within}
-use Rattle.reading.specs.Ceilings.{within}
 use Rattle.reading.specs.Each.{each}
-use Rattle.reading.specs.Reading.{known}
 use Rattle.tensors.specs.Format.{lengths, length_at, lengths_of, shape, kind_and_offset, tensor, total_of}
-use Rattle.values.specs.Format.{size}
 use Rattle.reading.proofs.SureLaws.{sure_then, sure_done, sure_here, sure_mark, sure_check, sure_if, sure_each, sure_so, along_map}
 use Rattle.fields.proofs.NumberFields.{sure_number}
 use Rattle.kinds.specs.Shape.{product_of}

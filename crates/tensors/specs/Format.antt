@@ -17,7 +17,7 @@ use Rattle.values.specs.declared.Span.{Span}
 use Rattle.tensors.specs.declared.Shape.{Shape}
 use Rattle.tensors.specs.declared.KindAndOffset.{KindAndOffset}
 use Rattle.tensors.specs.declared.Tensor.{Tensor}
-use Rattle.values.specs.Format.{size, text}
+use Rattle.values.specs.Format.{text}
 
 -- Tensors.
 

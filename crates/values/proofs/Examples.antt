@@ -5,7 +5,7 @@ use mathlib.Core.List.{List, [], ◌∷◌, ◌++◌}
 use mathlib.Core.Bool.{true, false}
 use lib.ListN.{take}
 use Rattle.reading.specs.Each.{each}
-use Rattle.reading.specs.Reading.{place, accepted, refused, run, here, ◌>>=◌}
+use Rattle.reading.specs.Reading.{accepted, refused, run, here, ◌>>=◌}
 use Rattle.values.specs.Format.{value, size, text_looking, text, key, type, value_of, array, entry}
 use Rattle.scalars.specs.Scalars.{scalar_width}
 use Rattle.fields.specs.Value.{number}

@@ -13,7 +13,7 @@ use lib.Seq.{drop-cons, length-take-le, take_all}
 use lib.Dec.{leb, eqb}
 use borrow.Author.Tests.{leb-true, leb-false, eq-eqb, ne_eqb, le-leb}
 use Rattle.reading.specs.Back.{same, Sure}
-use Rattle.reading.specs.Reading.{Reading, done, place, field, Answer, accepted, refused, run, ◌>>=◌, ◌>>◌, here, check, and_then}
+use Rattle.reading.specs.Reading.{Reading, done, field, Answer, accepted, refused, run, ◌>>=◌, ◌>>◌, here, check, and_then}
 use Rattle.reading.proofs.RunLaws.{run_bind}
 use Rattle.reading.proofs.SureLaws.{sure_then, sure_here, sure_check, sure_field, whatever}
 use Rattle.fields.proofs.NumberFields.{number-within}

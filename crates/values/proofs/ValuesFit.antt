@@ -11,7 +11,7 @@ use borrow.Author.Tests.{leb-true, ltb-true, eqb-true}
 use Rattle.reading.specs.Back.{All, Sure}
 use Rattle.fields.specs.Bytes.{Byte, Within}
 use Rattle.reading.specs.Each.{each, times}
-use Rattle.reading.specs.Reading.{Reading, done, refuse, place, accepted, run, ◌>>=◌}
+use Rattle.reading.specs.Reading.{Reading, done, refuse, accepted, run, ◌>>=◌}
 use Rattle.values.specs.Format.{value, size_width, size, text_looking, text, is_word, alignment_key, tokenizer_key, key_of, key, value_of, array, depth, entry}
 use Rattle.scalars.specs.Scalars.{scalar_width, scalar_of, scalar_bits, FitsScalar, scalar_type}
 use Rattle.reading.proofs.SureLaws.{sure_then, sure_done, sure_refuse, sure_here, sure_check, sure_if, sure_each, sure_field, sure_run, items-again, all_map, sure_so, map-through}

@@ -1,6 +1,5 @@
 -- `fetches::answer_for` meets its contract: no bytes, bytes past the file's end, or a sweep.
 -- Assumes nothing.
-use Prim.Native.Nat.{◌-◌}
 use mathlib.Core.Path.{sym, ◌∙◌}
 use native.Mathlib.Omega.{arith}
 use borrow.Author.Tests.{leb-false}

@@ -1,6 +1,5 @@
 -- `fetches::check_trace` meets its contract: at each turn the records that are left answer what the
 -- whole trace does; the measure is how many bytes are left. Assumes nothing.
-use Prim.Native.Nat.{◌-◌}
 use mathlib.Core.Path.{◌≡◌, sym, ap, ◌∙◌}
 use native.Mathlib.Omega.{arith}
 use Rattle.fetches.specs.Trace.{fetch_at, fetch_end}

@@ -1,6 +1,5 @@
 -- `fetches::fill` meets its contract: at each turn the table, with the answers that are still to
 -- come, is the whole one; the measure is how many rows are left. Assumes nothing.
-use Prim.Native.Nat.{◌-◌}
 use mathlib.Core.Path.{sym, ◌∙◌}
 use native.Mathlib.Omega.{arith}
 use Rattle.reading.specs.Back.{got}

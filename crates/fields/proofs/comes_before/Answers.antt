@@ -1,6 +1,5 @@
 -- `fields::comes_before` meets its contract. The invariant: from the byte i on the comparison
 -- answers what the whole one does. Assumes nothing.
-use Prim.Native.Nat.{◌-◌}
 use mathlib.Core.Path.{sym, ◌∙◌}
 use native.Mathlib.Omega.{arith}
 use Rattle.fields.proofs.Order.{before-short, before-ends}

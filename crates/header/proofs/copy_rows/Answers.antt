@@ -1,6 +1,5 @@
 -- `header::copy_rows` meets its contract. The invariant: the first i rows are copied, and the
 -- others as they were. Assumes nothing.
-use Prim.Native.Nat.{◌-◌}
 use mathlib.Core.List.{[]}
 use native.Mathlib.Nat.{zero-add}
 use native.Mathlib.Numerals.{add-one}

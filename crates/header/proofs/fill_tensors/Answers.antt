@@ -1,6 +1,6 @@
 -- `header::fill_tensors` meets its contract. The invariant: the rows before i are written, and the
 -- tensors that are left, all there after some total, give the rest. Assumes nothing.
-use Prim.Native.Nat.{ℕ, ◌+◌, ◌-◌}
+use Prim.Native.Nat.{ℕ, ◌+◌}
 use mathlib.Core.Path.{◌≡◌, sym, ap, ◌∙◌}
 use mathlib.Core.List.{List}
 use mathlib.Core.Bool.{Bool, true}

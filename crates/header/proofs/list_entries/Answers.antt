@@ -1,9 +1,7 @@
 -- `header::list_entries` meets its contract. The invariant: the entries that are left give what all
 -- of them do; and where all are there, the rows before i are written, and those that are left give
 -- the rest. Assumes nothing.
-use Prim.Native.Nat.{◌-◌}
 use mathlib.Core.Path.{sym, ap, ◌∙◌}
-use mathlib.Core.Bool.{true}
 use native.Mathlib.Omega.{arith}
 use lib.ListN.{length-set}
 use Rattle.reading.specs.Reading.{seen}

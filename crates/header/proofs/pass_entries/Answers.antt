@@ -1,6 +1,5 @@
 -- `header::pass_entries` meets its contract. The invariant: from here and with this alignment, the
 -- entries that are left give what all of them do. Assumes nothing.
-use Prim.Native.Nat.{◌-◌}
 use mathlib.Core.Path.{sym, ap, ◌∙◌}
 use native.Mathlib.Omega.{arith}
 use Rattle.reading.specs.Reading.{seen}

@@ -1,6 +1,5 @@
 -- `header::pass_tensors` meets its contract. The invariant: from here, with this total and with what
 -- is noted so far, the tensors that are left give what all of them do. Assumes nothing.
-use Prim.Native.Nat.{◌-◌}
 use mathlib.Core.Path.{◌≡◌, sym, ap, ◌∙◌}
 use native.Mathlib.Omega.{arith}
 use Rattle.reading.specs.Reading.{accepted, run, seen}

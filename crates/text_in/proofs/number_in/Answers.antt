@@ -1,6 +1,5 @@
 -- `text_in::number_in` meets its contract: at each turn the digits that are left make the whole
 -- number of the one so far; the measure is how many are left. Assumes nothing.
-use Prim.Native.Nat.{◌-◌}
 use mathlib.Core.Path.{sym, ◌∙◌}
 use native.Mathlib.Omega.{arith}
 use Rattle.text_in.proofs.Digits.{no_text, some-text, digits-end, digit_below, digit_above, digit_over, digit_on}

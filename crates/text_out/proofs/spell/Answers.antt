@@ -3,7 +3,6 @@
 use mathlib.Core.Path.{sym, ◌∙◌}
 use native.Mathlib.Omega.{arith}
 use lib.ListN.{length-set}
-use borrow.Author.Tests.{ltb-true, ltb-false}
 use Rattle.text_out.specs.Words.{digits, decimal}
 use Rattle.text_out.proofs.Digits.{digits-turn, one_digit, one_place, digits-end}
 use Rattle.text_out.proofs.spell.Goals.{then-loop-at-test+else-rest-gt9, else-loop-at-test}

@@ -1,13 +1,11 @@
 -- The proof of the cycle of calls {pass_items, read_array, read_value_of}. An array passes its
 -- items at one depth less; those read each value, and a value an array, at their own depth.
 -- Assumes nothing.
-use Prim.Native.Nat.{ℕ}
-use mathlib.Core.Path.{◌≡◌, refl, sym, ap, ◌∙◌}
+use mathlib.Core.Path.{refl, sym, ap, ◌∙◌}
 use native.Mathlib.Omega.{arith}
-use Rattle.reading.specs.Reading.{accepted, run, and_then, seen, passed}
+use Rattle.reading.specs.Reading.{and_then, seen, passed}
 use Rattle.fields.specs.Value.{as_number}
 use Rattle.reading.proofs.Repetition.{times-ends, times-passed, times-stops}
-use Rattle.values.specs.Format.{size, type}
 use Rattle.values.specs.Answers.{as_passed, as_array, as_value}
 use Rattle.values.proofs.ValueForms.{type-known, value-array}
 use Rattle.values.proofs.ArrayForms.{array-none, array_untyped, array_uncounted, array-stopped, array-passed}

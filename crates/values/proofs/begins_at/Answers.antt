@@ -1,6 +1,5 @@
 -- `values::begins_at` meets its contract. Of too few bytes none begin with the word; else the
 -- invariant: from the byte i on, the comparison answers what the whole one does. Assumes nothing.
-use Prim.Native.Nat.{◌-◌}
 use mathlib.Core.Path.{sym}
 use native.Mathlib.Omega.{arith}
 use lib.ListN.{drop, length-drop}

@@ -1,6 +1,5 @@
 -- `values::pass_texts` meets its contract. The invariant: from here, the texts that are left give
 -- what all of them do. Assumes nothing.
-use Prim.Native.Nat.{◌-◌}
 use mathlib.Core.Path.{sym, ap, ◌∙◌}
 use native.Mathlib.Omega.{arith}
 use Rattle.reading.specs.Reading.{passed, seen}
