@@ -26,7 +26,7 @@ loop-i-preserved c =
     let same = sym (rw c.inside.ensures at c.is_alignment_key.ensures) in (
       omega arith,
       entry-rest _ _ _ _ below v.invariant.1 c.known_entry-entry.ensures,
-      (elim c.if-is_alignment_key.branch [ then-is_alignment_key w ↦ rw (w.2, w.value_alignment.ensures) (rw (same ∙ w.if-is_alignment_key.true) at left) | else-is_alignment_key w ↦ rw w.1 (rw (same ∙ w.if-is_alignment_key.false) at left) ]),
+      (elim c.if-is_alignment_key.branch [ then-is_alignment_key w ↦ rw (w.said-is, w.value_alignment.ensures) (rw (same ∙ w.if-is_alignment_key.true) at left) | else-is_alignment_key w ↦ rw w.said-is (rw (same ∙ w.if-is_alignment_key.false) at left) ]),
     )
 
 pub returns : goal.returns

@@ -18,7 +18,7 @@ abbrev pub invariant-pass_arrays-loop-i : goal.invariant-pass_arrays-loop-i
 invariant-pass_arrays-loop-i l =
     (l.i ≤ l.n)
     × (step_of (run (times l.n (array l.depth (item l.depth))) l.s l.at)
-       ≡ step_of (run (times (l.n - l.i) (array l.depth (item l.depth))) l.s l.from))
+    ≡ step_of (run (times (l.n - l.i) (array l.depth (item l.depth))) l.s l.from))
 
 abbrev pub decreases-pass_arrays-loop-i : goal.decreases-pass_arrays-loop-i
 decreases-pass_arrays-loop-i l = l.n - l.i
