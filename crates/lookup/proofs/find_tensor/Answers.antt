@@ -1,6 +1,5 @@
 -- `lookup::find_tensor` meets its contract: a refusal of the start or of an entry is handed on, and
 -- else the search through the tensors answers. Assumes nothing.
-use borrow.Author.Rules.{rules}
 use Prim.Native.Nat.{ℕ}
 use mathlib.Core.Path.{◌≡◌, sym, ap, ◌∙◌}
 use mathlib.Core.List.{List}
@@ -21,8 +20,8 @@ use Rattle.start.proofs.StartMarks.{low-start}
 use Rattle.header.specs.Format.{latest}
 use Rattle.lookup.specs.Search.{seek}
 use Rattle.lookup.specs.Tensors.{looked_tensor, first_tensor, tensor_found}
-use Rattle.lookup.proofs.find_tensor.Statement.{statement}
-use Rattle.lookup.proofs.find_tensor.Tie as tie
+use Rattle.lookup.proofs.find_tensor.Goals.{In-Found}
+use Rattle.lookup.proofs.find_tensor.Goals as goal
 
 module _ (name s : List ℕ) where
   -- no ceiling is met at the start
@@ -45,34 +44,16 @@ module _ (name s : List ℕ) where
     to-tensors f = goes_on (start enough) _ s 0 (e ∙ plain-start) ∙ goes_on (times c.entries (entry c.dialect 3)) _ s p (seen-accepted _ _ _ _ f).1
 
 -- what was read of the start
-started : (c : tie.After-start) → accepted c.start.given.0.0 c.start.given.0.1.0 ≡ run (under full (start enough)) c.before.before.before.before.before.args.s.now 0
-started c = ap as_start (sym c.start.given.1) ∙ c.before.before.read-start.ensures
+started : (c : In-Found) → accepted c.in-Found.start c.in-Found.p ≡ run (under full (start enough)) c.args.s.now 0
+started c = ap as_start (sym c.in-Found.is) ∙ c.read_start.ensures
 
-returns : tie.Need-returns
-returns c = sym (ap tensor_found (no_start _ _ (ap as_start (sym c.before.why.given.1) ∙ c.before.before.before.read-start.ensures)))
+pub returns-in-Refused : goal.returns-in-Refused
+returns-in-Refused c = sym (ap tensor_found (no_start _ _ (ap as_start (sym c.in-Refused.is) ∙ c.read_start.ensures)))
 
-returns-2 : tie.Need-returns-2
-returns-2 c =
-    let p = c.before.before.before in
-    sym (ap tensor_found (no_entries _ _ (started p.before.before.before) (ap as_number (sym c.before.why2.given.1) ∙ p.pass-entries.ensures)))
+pub returns-in-Refused-pass_entries : goal.returns-in-Refused-pass_entries
+returns-in-Refused-pass_entries c =
+    sym (ap tensor_found (no_entries _ _ (started (goal.at.returns-in-Refused-pass_entries c).In-Found) (ap as_number (sym c.in-Refused-pass_entries.is) ∙ c.pass_entries.ensures)))
 
-returns-3 : tie.Need-returns-3
-returns-3 c =
-    let q = c.before.before in
-    let p = q.before.before in
-    c.seek-tensor.ensures ∙ sym (ap tensor_found (to-tensors _ _ (started p.before.before.before) (ap as_number (sym q.q.given.1) ∙ p.pass-entries.ensures)))
-
-pub find-tensor-spec : {M : Type 1} → statement M
-find-tensor-spec =
-    tie.close
-    (tie.spec
-    (λ c κs. search rules)
-    (λ c. search rules)
-    (λ c. search rules)
-    (λ c κs. search rules)
-    (λ c. search rules)
-    (λ c. search rules)
-    (λ c κs. search rules)
-    returns
-    returns-2
-    returns-3)
+pub returns-in-Value : goal.returns-in-Value
+returns-in-Value c =
+    c.seek_tensor.ensures ∙ sym (ap tensor_found (to-tensors _ _ (started (goal.at.returns-in-Value c).In-Found) (ap as_number (sym c.in-Value.is) ∙ c.pass_entries.ensures)))
