@@ -1,4 +1,3 @@
-pub mod LentAgain
 pub mod Chosen
 pub mod SeveralFacts
 pub mod Filled
