@@ -14,11 +14,11 @@ use Rattle.values.specs.Format.{text_looking, text, is_word}
 use Rattle.values.specs.declared.Dialect.{Dialect}
 use Rattle.values.specs.declared.Span.{Span}
 use Rattle.values.proofs.Texts.{text-looked, word-told}
-use Rattle.tensors.specs.Format.{named, tensor}
+use Rattle.tensors.specs.Format.{tensor}
 use Rattle.tensors.specs.declared.Tensor.{Tensor}
 use Rattle.tensors.proofs.Fitting.{sure_fitting}
 use Rattle.lookup.specs.Search.{Looked}
-use Rattle.lookup.specs.Tensors.{looked_name, looked_tensor, has_name}
+use Rattle.lookup.specs.Tensors.{named, looked_name, looked_tensor, has_name}
 
 module _ (name : List ℕ) (k : Dialect) (total : ℕ) (s : List ℕ) (p : ℕ) where
   -- a tensor, and whether it is the one

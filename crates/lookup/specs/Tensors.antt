@@ -13,7 +13,7 @@ use Rattle.values.specs.Format.{text_looking, is_word, entry}
 use Rattle.values.specs.declared.Dialect.{Dialect}
 use Rattle.values.specs.declared.Entry.{Entry}
 use Rattle.values.specs.declared.Span.{Span}
-use Rattle.tensors.specs.Format.{named, tensor, total_of}
+use Rattle.tensors.specs.Format.{shape, kind_and_offset, fitting, tensor, total_of}
 use Rattle.tensors.specs.Rows.{tensor_row}
 use Rattle.tensors.specs.declared.Tensor.{Tensor}
 use Rattle.start.specs.Format.{start, enough}
@@ -26,6 +26,14 @@ use Rattle.lookup.specs.declared.TensorLookup.TheVariants.{Found, Absent, Refuse
 -- where a text is, and whether it is the name that is asked for: one byte more than that has tells
 unfoldable pub looked_name : List ℕ → Dialect → Reading (Looked Span)
 looked_name name k = text_looking (suc (length name)) (λ a bs. record { what = a; asked = is_word name bs }) k
+
+-- the tensor at p whose name was read, after tensors whose products come to total: its shape, kind
+-- and offset, and then what must fit
+abbrev pub named : Dialect → ℕ → ℕ → Span → Reading Tensor
+named k p total name = do
+  x ← shape k
+  y ← kind_and_offset k
+  fitting p total name x y
 
 -- a tensor, after tensors whose products come to total, and whether its name is that
 unfoldable pub looked_tensor : List ℕ → Dialect → ℕ → Reading (Looked Tensor)

@@ -62,16 +62,16 @@ pub const STATUS_ABSENT: u64 = 100;
 
 pub const STATUS_OTHER_TYPE: u64 = 101;
 
-// Whether a text is that word.
-fn is_word(s: &[u8], span: Span, word: &[u8]) -> bool
+// Whether a text is that key.
+fn is_key(s: &[u8], span: Span, key: &[u8]) -> bool
     requires { span.place + span.len ≤ length s.now }
-    ensures { result ≡ is_word word.now (bytes_at s.now span) }
+    ensures { result ≡ is_word key.now (bytes_at s.now span) }
 {
-    if span.len != word.len() {
+    if span.len != key.len() {
         return false;
     }
     let place = span.place;
-    values::begins_at(s, place, word)
+    values::begins_at(s, place, key)
 }
 
 // The last of n entries that are all there whose key it is.
@@ -89,7 +89,7 @@ fn find_last(s: &[u8], at: usize, n: u64, dialect: Dialect, key: &[u8]) -> Sough
             }
             EntryRead::Found { entry, next } => {
                 let span = entry.key;
-                if is_word(s, span, key) {
+                if is_key(s, span, key) {
                     found = Sought::Present { entry };
                 }
                 from = next;
@@ -234,27 +234,27 @@ fn seek_tensor(s: &[u8], at: usize, n: u64, dialect: Dialect, name: &[u8]) -> Te
     };
     let mut from = at;
     let mut total: u64 = 0;
-    let mut i: u64 = 0;
-    while i < n {
+    let mut passed: u64 = 0;
+    while passed < n {
         match tensors::read_tensor(s, from, dialect, total, limits) {
             TensorRead::Refused { why, place } => {
                 return TensorLookup::Refused { why, place };
             }
             TensorRead::Found { tensor, next } => {
                 let span = tensor.name;
-                if is_word(s, span, name) {
+                if is_key(s, span, name) {
                     return TensorLookup::Found {
                         tensor,
-                        passed: i + 1,
+                        passed: passed + 1,
                     };
                 }
                 from = next;
                 total += tensor.parameters;
             }
         }
-        i += 1;
+        passed += 1;
     }
-    TensorLookup::Absent { passed: i }
+    TensorLookup::Absent { passed }
 }
 
 // The first tensor of a name. The entries are passed, and then the tensors up to that one: what

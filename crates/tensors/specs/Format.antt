@@ -66,20 +66,15 @@ fitting p total name x y = do
   check (leb (total + product_of (lengths x)) greatest) 15 p
   done (record { name = name; shape = x; kind = y.kind; offset = y.offset; parameters = product_of (lengths x); size = size_of (lengths x) y.kind })
 
--- the tensor at p whose name was read, after tensors whose products come to total: its shape, kind
--- and offset, and then what must fit
-abbrev pub named : Dialect → ℕ → ℕ → Span → Reading Tensor
-named k p total name = do
-  x ← shape k
-  y ← kind_and_offset k
-  fitting p total name x y
-
--- a tensor, after tensors whose products come to total: its name, and what follows it
+-- a tensor, after tensors whose products come to total: its name, shape, kind and offset, and then
+-- what must fit
 unfoldable pub tensor : Dialect → ℕ → Reading Tensor
 tensor k total = do
   p ← here
   name ← text k
-  named k p total name
+  x ← shape k
+  y ← kind_and_offset k
+  fitting p total name x y
 
 -- the place of a tensor's offset: past its name, the count of its dimensions, its lengths and its
 -- kind

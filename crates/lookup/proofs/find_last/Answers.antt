@@ -10,7 +10,7 @@ use Rattle.values.specs.Answers.{as_entry}
 use Rattle.lookup.specs.Questions.{sought}
 use Rattle.lookup.proofs.KeysInside.{key-inside}
 use Rattle.lookup.proofs.LastEntry.{folded, never}
-use Rattle.lookup.proofs.find_last.Goals.{In-Found, else-is_word, then-is_word}
+use Rattle.lookup.proofs.find_last.Goals.{In-Found, else-is_key, then-is_key}
 use Rattle.lookup.proofs.find_last.Goals as goal
 
 -- the entry that was read
@@ -25,16 +25,16 @@ returns-in-Refused c =
     let e = ap as_entry (sym c.in-Refused.is) ∙ c.read_entry.ensures in
     absurd (never _ _ _ _ _ v.invariant.1 c.requires (times-stops _ _ _ _ _ c.loop-i-test.true e))
 
-pub is_word-requires : goal.is_word-requires
-is_word-requires c = key-inside _ _ _ _ (found (goal.at.is_word-requires c).In-Found)
+pub is_key-requires : goal.is_key-requires
+is_key-requires c = key-inside _ _ _ _ (found (goal.at.is_key-requires c).In-Found)
 
 pub loop-i-preserved : goal.loop-i-preserved
 loop-i-preserved c =
     let v = c.loop-i in
     let a = c.args in
     let left = v.invariant.1 ∙ times-seen _ _ _ _ _ c.loop-i-test.true (found (goal.at.loop-i-preserved c).In-Found) (sought a.key.now a.s.now) v.found in
-    let same = sym c.is_word.ensures in
-    (omega arith, (elim c.if-is_word.branch [ then-is_word w ↦ rw (w.from-is, w.found-is) (rw (same ∙ w.if-is_word.true) at left) | else-is_word w ↦ rw (w.from-is, w.found-is) (rw (same ∙ w.if-is_word.false) at left) ]))
+    let same = sym c.is_key.ensures in
+    (omega arith, (elim c.if-is_key.branch [ then-is_key w ↦ rw (w.from-is, w.found-is) (rw (same ∙ w.if-is_key.true) at left) | else-is_key w ↦ rw (w.from-is, w.found-is) (rw (same ∙ w.if-is_key.false) at left) ]))
 
 pub returns : goal.returns
 returns c = folded _ _ _ _ _ c.loop-i.invariant.1 (times-ends _ _ _ _ _ c.loop-i-test.false)

@@ -6,10 +6,10 @@ use Rattle.lookup.specs.Search.{seek}
 use Rattle.lookup.specs.Tensors.{looked_tensor}
 use Rattle.lookup.proofs.seek_tensor.Given as goal
 
-abbrev pub invariant-loop-i : goal.invariant-loop-i
-invariant-loop-i l =
-    (l.i ≤ l.n)
-    × (run (seek (looked_tensor l.name l.dialect) total_of l.n 0 0) l.s l.at ≡ run (seek (looked_tensor l.name l.dialect) total_of (l.n - l.i) l.total l.i) l.s l.from)
+abbrev pub invariant-loop-passed : goal.invariant-loop-passed
+invariant-loop-passed l =
+    (l.passed ≤ l.n)
+    × (run (seek (looked_tensor l.name l.dialect) total_of l.n 0 0) l.s l.at ≡ run (seek (looked_tensor l.name l.dialect) total_of (l.n - l.passed) l.total l.passed) l.s l.from)
 
-abbrev pub decreases-loop-i : goal.decreases-loop-i
-decreases-loop-i l = l.n - l.i
+abbrev pub decreases-loop-passed : goal.decreases-loop-passed
+decreases-loop-passed l = l.n - l.passed

@@ -8,9 +8,7 @@ use Rattle.tensors.specs.declared.Shape.{Shape}
 use Rattle.values.specs.Contents.{type_bytes}
 use Rattle.tensors.specs.Contents.{length_bytes, shape_bytes}
 use Rattle.writer.proofs.RowsWritten.{wrote_as}
-use borrow.Author.Rules.{rules}
-use Rattle.writer.proofs.write_shape.Statement.{statement}
-use Rattle.writer.proofs.write_shape.Tie as tie
+use Rattle.writer.proofs.write_shape.Goals as goal
 
 -- the lengths in pairs
 in_pairs : (k : Dialect) (x : Shape) →
@@ -19,23 +17,5 @@ in_pairs : (k : Dialect) (x : Shape) →
 unfolding shape_bytes
 in_pairs k x = simp append_assoc
 
-returns : tie.Need-returns
-returns c = (search rules, wrote_as (in_pairs _ _) (search chain depth 12))
-
-pub write-shape-spec : {M : Type 1} → statement M
-write-shape-spec =
-    tie.close
-    (tie.spec
-    (λ c κs. search rules)
-    (λ c. search rules)
-    (λ c. search rules)
-    (λ c. search rules)
-    (λ c κs. search rules)
-    (λ c. search rules)
-    (λ c. search rules)
-    (λ c. search rules)
-    (λ c. search rules)
-    (λ c κs. search rules)
-    (λ c. search rules)
-    (λ c. search rules)
-    returns)
+pub returns-clause-wrote : goal.returns-clause-wrote
+returns-clause-wrote c = wrote_as (in_pairs _ _) (search chain depth 12)
