@@ -74,11 +74,11 @@ returns-in-Of-clause-next_value c =
 
 pub returns-in-Bad-clause-wrote : goal.returns-in-Bad-clause-wrote
 returns-in-Bad-clause-wrote c =
-    let a = c.args in (absurd (item_no a.dialect a.t a.s.now a.at (bare (goal.at.returns-in-Bad-clause-wrote c).In-None) c.requires.at_value (sym c.in-Bad.is ∙ c.text_at.ensures))).0
+    let a = c.args in absurd (item_no a.dialect a.t a.s.now a.at (bare (goal.at.returns-in-Bad-clause-wrote c).In-None) c.requires.at_value (sym c.in-Bad.is ∙ c.text_at.ensures))
 
 pub returns-in-Bad-clause-next_value : goal.returns-in-Bad-clause-next_value
 returns-in-Bad-clause-next_value c =
-    let a = c.args in (absurd (item_no a.dialect a.t a.s.now a.at (bare (goal.at.returns-in-Bad-clause-next_value c).In-None) c.requires.at_value (sym c.in-Bad.is ∙ c.text_at.ensures))).1
+    let a = c.args in absurd (item_no a.dialect a.t a.s.now a.at (bare (goal.at.returns-in-Bad-clause-next_value c).In-None) c.requires.at_value (sym c.in-Bad.is ∙ c.text_at.ensures))
 
 pub returns-in-Found-clause-wrote : goal.returns-in-Found-clause-wrote
 returns-in-Found-clause-wrote c =

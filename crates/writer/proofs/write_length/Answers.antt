@@ -7,7 +7,7 @@ use Rattle.writer.proofs.write_length.Goals as goal
 
 pub returns-then-i-n-clause-wrote : goal.returns-then-i-n-clause-wrote
 unfolding length_bytes
-returns-then-i-n-clause-wrote c = (rw (lt-ltb _ _ c.if-i-n.true) c.put_number.ensures).1
+returns-then-i-n-clause-wrote c = rw (lt-ltb _ _ c.if-i-n.true) c.put_number.ensures.wrote
 
 pub returns-else-i-n-clause-wrote : goal.returns-else-i-n-clause-wrote
 unfolding length_bytes

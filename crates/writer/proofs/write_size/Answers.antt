@@ -6,8 +6,8 @@ use Rattle.writer.proofs.write_size.Goals as goal
 
 pub returns-then-dialect-eq1-clause-wrote : goal.returns-then-dialect-eq1-clause-wrote
 unfolding size_bytes
-returns-then-dialect-eq1-clause-wrote c = (rw (eq-eqb _ _ c.if-dialect-eq1.true) c.put_number.ensures).1
+returns-then-dialect-eq1-clause-wrote c = rw (eq-eqb _ _ c.if-dialect-eq1.true) c.put_number.ensures.wrote
 
 pub returns-else-dialect-eq1-clause-wrote : goal.returns-else-dialect-eq1-clause-wrote
 unfolding size_bytes
-returns-else-dialect-eq1-clause-wrote c = (rw (ne_eqb _ _ c.if-dialect-eq1.false) c.put_number-else-dialect-eq1.ensures).1
+returns-else-dialect-eq1-clause-wrote c = rw (ne_eqb _ _ c.if-dialect-eq1.false) c.put_number-else-dialect-eq1.ensures.wrote

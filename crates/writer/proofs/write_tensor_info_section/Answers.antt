@@ -31,7 +31,7 @@ room : (c : In-Found) →
     l.done + (size_width a.dialect + length (inside_of a.s.now x.name) + shape_size x.shape.dimensions + 12) ≤ length l.out
 room c =
     let f = found c in
-    going_room _ _ _ _ c.loop-i.invariant c.loop-i-test.true f.is _ f.told c.requires.value.1
+    going_room _ _ _ _ c.loop-i.invariant c.loop-i-test.true f.is _ f.told c.requires.first_in_bounds
 
 pub returns-in_default : goal.returns-in_default
 returns-in_default c =
@@ -54,7 +54,7 @@ loop-i-preserved c =
     let f = found (goal.at.loop-i-preserved c).In-Found in
     let p = sym c.lay.ensures ∙ c.in-At.is in
     let w = c.write_laid_tensor-done in
-    going_on _ _ _ _ c.loop-i.invariant c.loop-i-test.true f.is _ f.told p _ _ w.ensures.1 w.auto.0
+    going_on _ _ _ _ c.loop-i.invariant c.loop-i-test.true f.is _ f.told p _ _ w.ensures.wrote w.auto.0
 
 pub returns : goal.returns
 returns c = going_end _ _ _ _ c.loop-i.invariant (omega arith)

@@ -4,4 +4,4 @@ use Rattle.writer.proofs.write_type.Goals as goal
 
 pub returns-clause-wrote : goal.returns-clause-wrote
 unfolding type_bytes
-returns-clause-wrote c = (c.put_number.ensures).1
+returns-clause-wrote c = c.put_number.ensures.wrote
