@@ -2,8 +2,8 @@
 // of standard input. Nothing here takes memory.
 #![tactic(auto)]
 
-ghost use Rattle.std.specs.Prelude.{◌≡◌, ◌≤◌, length, take, IfSome};
-ghost use Rattle.std.specs.Io.KnownBytes.{Consumes};
+ghost use Rattle.std.specs.Prelude.{◌≡◌, ◌<◌, ◌≤◌, length, take, IfSome, OnOk};
+ghost use Rattle.std.specs.Io.KnownBytes.{Consumes, IsAtEnd};
 
 use std::env::FillError;
 use std::fs::File;
@@ -25,19 +25,21 @@ pub fn argument(env: &impl Env, i: usize, out: &mut [u8]) -> Option<usize>
 }
 
 // Reads until out is full, the input ends or a read fails, and answers how many bytes it put at the
-// start of out.
-pub fn read_full<R: Read>(from: &mut R, out: &mut [u8]) -> usize
-    ensures in_range { result ≤ length out.new }
-    ensures bytes { Consumes (R.remaining from.old) (R.remaining from.new) (take result out.new) }
+// start of out, and whether a read failed.
+pub fn read_full<R: Read>(from: &mut R, out: &mut [u8]) -> (usize, io::Result<()>)
+    ensures in_range { result.0 ≤ length out.new }
+    ensures bytes { Consumes (R.remaining from.old) (R.remaining from.new) (take result.0 out.new) }
+    ensures full_or_end { OnOk result.1 (result.0 < length out.new → IsAtEnd (R.remaining from.new)) }
 {
     let mut done: usize = 0;
     while done < out.len() {
         match from.read(&mut out[done..]) {
-            Ok(n) if 0 < n => done += n,
-            _ => break,
+            Ok(0) => return (done, Ok(())),
+            Ok(n) => done += n,
+            Err(error) => return (done, Err(error)),
         }
     }
-    done
+    (done, Ok(()))
 }
 
 // Reads the file at a path until out is full, the file ends or a read fails, and answers how many
@@ -52,7 +54,10 @@ pub fn read_file(
     ensures { IfSome result (λ n. n ≤ length out.new) }
 {
     match open(files, path) {
-        Ok(mut file) => Some(read_full(&mut file, out)),
+        Ok(mut file) => {
+            let (n, _) = read_full(&mut file, out);
+            Some(n)
+        }
         Err(error) => {
             tell(errors, path, &error);
             None
@@ -117,7 +122,9 @@ mod tests {
     #[test]
     fn keeps_what_came_before_a_failure(rt: HostRuntime) {
         let mut out = [9u8; 5];
-        assert_eq!(rt; read_full(&mut Broken(3), &mut out), 3);
+        let (n, read) = read_full(&mut Broken(3), &mut out);
+        assert_eq!(rt; n, 3);
+        assert!(rt; read.is_err());
         assert_eq!(rt; out.as_slice(), [3, 2, 1, 9, 9].as_slice());
     }
 
@@ -125,11 +132,13 @@ mod tests {
     fn leaves_what_has_no_room(rt: HostRuntime) {
         let mut from: &[u8] = b"abcdef";
         let mut out = [0u8; 4];
-        assert_eq!(rt; read_full(&mut from, &mut out), 4);
+        let (n, _) = read_full(&mut from, &mut out);
+        assert_eq!(rt; n, 4);
         assert_eq!(rt; out.as_slice(), b"abcd".as_slice());
         assert_eq!(rt; from, b"ef".as_slice());
-        assert_eq!(rt; read_full(&mut from, &mut out), 2);
-        assert_eq!(rt; read_full(&mut from, &mut out), 0);
+        let (n, read) = read_full(&mut from, &mut out);
+        assert_eq!(rt; n, 2);
+        assert!(rt; read.is_ok());
     }
 
     #[test]

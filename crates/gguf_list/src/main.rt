@@ -29,6 +29,6 @@ fn print_listing(rt: &HostRuntime, prefix: &[u8]) {
 
 fn main(rt: HostRuntime) {
     let mut prefix = [0u8; 65536];
-    let n = bytes_in::read_full(&mut rt.stdin(), &mut prefix);
+    let (n, _) = bytes_in::read_full(&mut rt.stdin(), &mut prefix);
     print_listing(&rt, &prefix[..n]);
 }
