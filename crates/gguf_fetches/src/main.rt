@@ -7,9 +7,8 @@
 // for each of 512 rows, and the first line. No well-formed trace is as long as the buffer for one.
 #![tactic(auto)]
 
-ghost use Rattle.std.specs.Prelude.{length, ◌≡◌};
+ghost use Rattle.std.specs.Prelude.{length, ◌≡◌, ◌≤◌, IfSome};
 
-use libc::{STDERR_FILENO, STDOUT_FILENO};
 use rows::{ENTRY_WORDS, TENSOR_WORDS};
 use text_in::TextNumber;
 
@@ -21,14 +20,15 @@ fn trace_buffer() -> [u8; 4194304]
 }
 
 // Something that can't be done, on standard error.
-fn complain(what: &[u8]) {
-    io::write_all(STDERR_FILENO, b"gguf_fetches: ");
-    io::write_all(STDERR_FILENO, what);
-    io::write_all(STDERR_FILENO, b"\n");
+fn complain(rt: &HostRuntime, what: &[u8]) {
+    let errors = rt.stderr();
+    let _ = errors.write_all(b"gguf_fetches: ");
+    let _ = errors.write_all(what);
+    let _ = errors.write_all(b"\n");
 }
 
 // The lines of the tensors, or of a refusal.
-fn print_replay(prefix: &[u8], file: u64, trace: &[u8]) {
+fn print_replay(rt: &HostRuntime, prefix: &[u8], file: u64, trace: &[u8]) {
     let entry = [0u64; ENTRY_WORDS];
     let mut entries = [entry; 512];
     let tensor = [0u64; TENSOR_WORDS];
@@ -44,59 +44,57 @@ fn print_replay(prefix: &[u8], file: u64, trace: &[u8]) {
         &mut tensors,
         &mut answers,
     );
-    if !io::write_all(STDOUT_FILENO, &text[0..n]) {
-        complain(b"the lines can't be written");
+    if rt.stdout().write_all(&text[0..n]).is_err() {
+        complain(rt, b"the lines can't be written");
     }
 }
 
-// The file that the argument i names, open for reading; or below 0, and then the reason is told.
-fn open_argument(i: usize) -> i32 {
-    let mut path = io::buffer();
-    let n = os::arg(i, &mut path);
-    let fd = os::open_read(&path[..n]);
-    if fd < 0 {
-        os::fail(&path[..n]);
-    }
-    fd
+// The front of the file that the argument i names, and how many bytes that is; or none where it
+// can't be opened, and then the reason is told.
+fn read_argument(rt: &HostRuntime, i: usize, out: &mut [u8]) -> Option<usize>
+    ensures { IfSome result (λ n. n ≤ length out.new) }
+{
+    let mut path = [0u8; 4096];
+    let n = bytes_in::argument(rt, i, &mut path).unwrap_or(0);
+    bytes_in::read_file(rt, &rt.stderr(), &path[..n], out)
 }
 
 // The replay of the trace that the second argument names.
-fn print_with_trace(prefix: &[u8], file: u64) {
-    let fd = open_argument(2);
-    if fd < 0 {
-        return;
-    }
+fn print_with_trace(rt: &HostRuntime, prefix: &[u8], file: u64) {
     let mut trace = trace_buffer();
-    let n = io::read_full(fd, &mut trace);
-    libc::close(fd);
+    let Some(n) = read_argument(rt, 2, &mut trace) else {
+        return;
+    };
     if n == 4194304 {
-        complain(b"the trace has 4 MiB or more");
+        complain(rt, b"the trace has 4 MiB or more");
         return;
     }
-    print_replay(prefix, file, &trace[..n]);
+    print_replay(rt, prefix, file, &trace[..n]);
 }
 
 // The replay over the file that the first argument names.
-fn print_with_file(file: u64) {
-    let fd = open_argument(1);
-    if fd < 0 {
-        return;
+fn print_with_file(rt: &HostRuntime, file: u64) {
+    let mut prefix = [0u8; 65536];
+    if let Some(n) = read_argument(rt, 1, &mut prefix) {
+        print_with_trace(rt, &prefix[..n], file);
     }
-    let mut prefix = io::large_buffer();
-    let n = io::read_full(fd, &mut prefix);
-    libc::close(fd);
-    print_with_trace(&prefix[..n], file);
 }
 
-fn main() {
-    if os::arg_count() != 4 {
-        complain(b"three arguments, please: FILE TRACE LENGTH");
+// Whether the program was started with exactly three arguments.
+fn has_three_arguments(rt: &HostRuntime) -> bool {
+    let mut text = [0u8; 0];
+    bytes_in::argument(rt, 3, &mut text).is_some() && bytes_in::argument(rt, 4, &mut text).is_none()
+}
+
+fn main(rt: HostRuntime) {
+    if !has_three_arguments(&rt) {
+        complain(&rt, b"three arguments, please: FILE TRACE LENGTH");
         return;
     }
-    let mut text = io::buffer();
-    let n = os::arg(3, &mut text);
+    let mut text = [0u8; 4096];
+    let n = bytes_in::argument(&rt, 3, &mut text).unwrap_or(0);
     match text_in::number_in(&text[..n]) {
-        TextNumber::Number { value } => print_with_file(value),
-        TextNumber::Unclear => complain(b"LENGTH is a number of bytes"),
+        TextNumber::Number { value } => print_with_file(&rt, value),
+        TextNumber::Unclear => complain(&rt, b"LENGTH is a number of bytes"),
     }
 }

@@ -7,53 +7,46 @@
 // prefix reaches.
 #![tactic(auto)]
 
-use libc::STDOUT_FILENO;
 use rows::{ENTRY_WORDS, TENSOR_WORDS};
 
 // The listing of a prefix.
-fn print_listing(prefix: &[u8]) {
+fn print_listing(rt: &HostRuntime, prefix: &[u8]) {
     let entry = [0u64; ENTRY_WORDS];
     let mut entries = [entry; 512];
     let tensor = [0u64; TENSOR_WORDS];
     let mut tensors = [tensor; 512];
     let mut text = [0u8; 262144];
     let n = listing::list(&mut text, prefix, &mut entries, &mut tensors);
-    io::write_all(STDOUT_FILENO, &text[0..n]);
+    let _ = rt.stdout().write_all(&text[0..n]);
 }
 
 // The listing of a file, after its name.
-fn print_case(path: &[u8]) {
-    io::write_all(STDOUT_FILENO, b"== ");
-    io::write_all(STDOUT_FILENO, path);
-    io::write_all(STDOUT_FILENO, b"\n");
-    let fd = os::open_read(path);
-    if fd < 0 {
-        os::fail(path);
-        return;
+fn print_case(rt: &HostRuntime, path: &[u8]) {
+    let _ = rt.stdout().write_all(b"== ");
+    let _ = rt.stdout().write_all(path);
+    let _ = rt.stdout().write_all(b"\n");
+    let mut prefix = [0u8; 65536];
+    if let Some(n) = bytes_in::read_file(rt, &rt.stderr(), path, &mut prefix) {
+        print_listing(rt, &prefix[..n]);
     }
-    print_file(fd);
 }
 
-// The listing of an open file.
-fn print_file(fd: i32) {
-    let mut prefix = io::large_buffer();
-    let n = io::read_full(fd, &mut prefix);
-    libc::close(fd);
-    print_listing(&prefix[..n]);
+// The listing of the file that the argument i names, and whether there is such an argument.
+fn print_argument(rt: &HostRuntime, i: usize) -> bool {
+    let mut path = [0u8; 4096];
+    match bytes_in::argument(rt, i, &mut path) {
+        Some(n) => {
+            print_case(rt, &path[..n]);
+            true
+        }
+        None => false,
+    }
 }
 
-// The listing of the file that the argument i names.
-fn print_argument(i: usize) {
-    let mut path = io::buffer();
-    let n = os::arg(i, &mut path);
-    print_case(&path[..n]);
-}
-
-fn main() {
-    let count = os::arg_count();
-    let mut i: usize = 1;
-    while i < count {
-        print_argument(i);
-        i += 1;
+fn main(rt: HostRuntime) {
+    for i in 1..usize::MAX {
+        if !print_argument(&rt, i) {
+            break;
+        }
     }
 }

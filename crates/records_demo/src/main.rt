@@ -47,76 +47,76 @@ fn list(s: &[u8], entries: &mut [EntryRow], rows: &mut [TensorRow], blank: Tenso
 }
 
 // Prints a number and what follows it.
-fn print(n: u64, then: u8) {
-    io::print_decimal(1, n);
-    io::write_all(1, &[then]);
+fn print(rt: &impl Print, n: u64, then: u8) {
+    let _ = print!(rt; "{n}");
+    let _ = rt.write_all(&[then]);
 }
 
 // Prints two numbers and what follows them.
-fn print_two(a: u64, b: u64, then: u8) {
-    print(a, b' ');
-    print(b, then);
+fn print_two(rt: &impl Print, a: u64, b: u64, then: u8) {
+    print(rt, a, b' ');
+    print(rt, b, then);
 }
 
 // Prints the fields of a record on a line.
-fn print_record(r: TensorRecord) {
-    print_two(r.name_place, r.name_len, b' ');
-    print_two(r.kind, r.dimensions, b' ');
-    print_two(r.first, r.second, b' ');
-    print_two(r.third, r.fourth, b' ');
-    print_two(r.offset, r.size, b'\n');
+fn print_record(rt: &impl Print, r: TensorRecord) {
+    print_two(rt, r.name_place, r.name_len, b' ');
+    print_two(rt, r.kind, r.dimensions, b' ');
+    print_two(rt, r.first, r.second, b' ');
+    print_two(rt, r.third, r.fourth, b' ');
+    print_two(rt, r.offset, r.size, b'\n');
 }
 
 // Prints the fields of a record, or that there is none.
-fn print_got(got: RecordGot) {
+fn print_got(rt: &impl Print, got: RecordGot) {
     match got {
-        RecordGot::Found { record } => print_record(record),
+        RecordGot::Found { record } => print_record(rt, record),
         RecordGot::Nothing => {
-            io::write_all(1, b"none\n");
+            let _ = rt.write_all(b"none\n");
         }
     }
 }
 
 // Prints the number of tensors, or a refusal's number and place.
-fn print_answer(answer: HeaderRead) {
+fn print_answer(rt: &impl Print, answer: HeaderRead) {
     match answer {
         HeaderRead::Found { header } => {
-            io::write_all(1, b"tensors ");
-            print(header.tensors, b'\n');
+            let _ = rt.write_all(b"tensors ");
+            print(rt, header.tensors, b'\n');
         }
         HeaderRead::Refused { why, place } => {
-            io::write_all(1, b"refused ");
-            print_two(why, place as u64, b'\n');
+            let _ = rt.write_all(b"refused ");
+            print_two(rt, why, place as u64, b'\n');
         }
     }
 }
 
 // Prints an answer, and what stands at each number.
-fn print_listing(listing: Listing) {
+fn print_listing(rt: &impl Print, listing: Listing) {
     let answer = listing.answer;
     let first = listing.first;
     let second = listing.second;
     let third = listing.third;
-    print_answer(answer);
-    print_got(first);
-    print_got(second);
-    print_got(third);
+    print_answer(rt, answer);
+    print_got(rt, first);
+    print_got(rt, second);
+    print_got(rt, third);
 }
 
 // Reads a header and prints what was read.
-fn show(s: &[u8]) {
+fn show(rt: &impl Print, s: &[u8]) {
     let mut entries = [[0u64; ENTRY_WORDS]; 1];
     let mut rows = [[0u64; TENSOR_WORDS]; 2];
     let blank = tensor_records::record_of([0; TENSOR_WORDS]);
-    print_listing(list(s, &mut entries, &mut rows, blank));
+    print_listing(rt, list(s, &mut entries, &mut rows, blank));
 }
 
 // The header: its start, tensor a of kind 0 and length 5 at 0, tensor b of kind 1 and length 3 at
 // 32.
-fn main() {
+fn main(rt: HostRuntime) {
     let header = *b"GGUF\x03\0\0\0\x02\0\0\0\0\0\0\0\0\0\0\0\0\0\0\0\
                    \x01\0\0\0\0\0\0\0a\x01\0\0\0\x05\0\0\0\0\0\0\0\0\0\0\0\0\0\0\0\0\0\0\0\
                    \x01\0\0\0\0\0\0\0b\x01\0\0\0\x03\0\0\0\0\0\0\0\x01\0\0\0\x20\0\0\0\0\0\0\0";
-    show(&header);
-    show(&header[0..89]);
+    show(&rt, &header);
+    show(&rt, &header[0..89]);
 }

@@ -11,7 +11,6 @@ ghost use Rattle.std.specs.Prelude.{◌≤◌};
 
 use fields::{Number, Width};
 use header::{Header, HeaderRead};
-use libc::STDOUT_FILENO;
 use reading::Limits;
 use rows::{
     ENTRY_WORDS, EntryRow, FIRST_ITEM, ITEM_TYPE, KEPT, KEY_LENGTH, KEY_PLACE, NAME_LENGTH,
@@ -441,74 +440,63 @@ fn text_at(sample: &[u8], at: usize) -> &[u8] {
 
 // Prints the number of an answer that differs. What stands after the last answer counts as one
 // more.
-fn print_number(i: u64) {
-    io::write_all(STDOUT_FILENO, b"answer ");
-    io::print_decimal(STDOUT_FILENO, i);
-    io::write_all(STDOUT_FILENO, b" differs\n");
+fn print_number(rt: &impl Print, i: u64) {
+    let _ = println!(rt; "answer {i} differs");
 }
 
 // 1 where the answer i differs, and 0 where it agrees. The numbers of the first five that differ
 // are printed.
-fn counted(is_same: bool, i: u64, differ: u64) -> u64
+fn counted(rt: &impl Print, is_same: bool, i: u64, differ: u64) -> u64
     ensures { result ≤ 1 }
 {
     if is_same {
         return 0;
     }
     if differ < 5 {
-        print_number(i);
+        print_number(rt, i);
     }
     1
 }
 
 // How many of the answers differ, from a place of the sample on.
-fn replay(sample: &[u8], at: usize, answers: u64) -> u64 {
+fn replay(rt: &impl Print, sample: &[u8], at: usize, answers: u64) -> u64 {
     let mut p = at;
     let mut differ: u64 = 0;
     let mut i: u64 = 0;
     while i < answers {
         let q = after_text(sample, p);
         let is_same = agrees(text_at(sample, p), text_at(sample, q));
-        differ += counted(is_same, i, differ);
+        differ += counted(rt, is_same, i, differ);
         p = after_text(sample, q);
         i += 1;
     }
     if p != sample.len() {
-        print_number(answers);
+        print_number(rt, answers);
     }
     differ
 }
 
 // Prints how many answers there are and how many differ.
-fn print_summary(answers: u64, differ: u64) {
-    io::print_decimal(STDOUT_FILENO, answers);
-    io::write_all(STDOUT_FILENO, b" answers of the original, ");
-    io::print_decimal(STDOUT_FILENO, differ);
-    io::write_all(STDOUT_FILENO, b" differ\n");
+fn print_summary(rt: &impl Print, answers: u64, differ: u64) {
+    let _ = println!(rt; "{answers} answers of the original, {differ} differ");
 }
 
 // Replays a sample: how many answers there are, and each input with its answer.
-fn replay_all(sample: &[u8]) {
+fn replay_all(rt: &impl Print, sample: &[u8]) {
     match fields::number_at(sample, 0, Width::Eight, false) {
         Number::Refused { why: _, place: _ } => {
-            io::write_all(STDOUT_FILENO, b"no sample\n");
+            let _ = println!(rt; "no sample");
         }
         Number::Value { value, next } => {
-            let differ = replay(sample, next, value);
-            print_summary(value, differ);
+            let differ = replay(rt, sample, next, value);
+            print_summary(rt, value, differ);
         }
     }
 }
 
-fn main() {
-    let path = *b"answers";
-    let fd = os::open_read(&path);
-    if fd < 0 {
-        os::fail(&path);
-        return;
-    }
+fn main(rt: HostRuntime) {
     let mut sample = [0u8; 400000];
-    let n = io::read_full(fd, &mut sample);
-    libc::close(fd);
-    replay_all(&sample[..n]);
+    if let Some(n) = bytes_in::read_file(&rt, &rt.stderr(), b"answers", &mut sample) {
+        replay_all(&rt, &sample[..n]);
+    }
 }
