@@ -7,19 +7,15 @@ use Rattle.values.specs.Format.{alignment_key}
 use Rattle.sheet.specs.Format.{metadata}
 use Rattle.sheet.proofs.BackFromAnswers.{next-there}
 use Rattle.writer.proofs.Entries.{EntryThere, entry-there, passed_here, passed-turn, passed-end}
-use Rattle.writer.proofs.entries_before.Goals.{After-comes_before, After-known_entry-entry}
+use Rattle.writer.proofs.entries_before.Goals.{After-comes_before}
 use Rattle.writer.proofs.entries_before.Goals as goal
 
--- the entry that was read again
-entry : (c : After-known_entry-entry) →
-    EntryThere c.args.s.now c.loop-i.from c.known_entry-entry.result.parts c.known_entry-entry.result.next
-entry c = entry-there _ _ c.known_entry-entry.ensures
-
 -- whether the alignment's key comes before its own
-ahead : (c : After-comes_before) → before alignment_key (entry c).what.content.key ≡ c.comes_before.result
+ahead : (c : After-comes_before) →
+    let x : EntryThere c.args.s.now c.loop-i.from c.known_entry-entry.result.parts c.known_entry-entry.result.next = entry-there _ _ c.known_entry-entry.ensures in
+    before alignment_key x.what.content.key ≡ c.comes_before.result
 ahead c =
-    let entry_here : (EntryThere c.args.s.now c.loop-i.from c.known_entry-entry.result.parts c.known_entry-entry.result.next) = entry-there _ _ c.known_entry-entry.ensures in
-    let x = entry_here in
+    let x : EntryThere c.args.s.now c.loop-i.from c.known_entry-entry.result.parts c.known_entry-entry.result.next = entry-there _ _ c.known_entry-entry.ensures in
     ap (before alignment_key) (sym (c.inside.ensures ∙ x.key)) ∙ sym c.comes_before.ensures
 
 pub known_entry-entry-requires : goal.known_entry-entry-requires
@@ -27,11 +23,13 @@ known_entry-entry-requires c = next-there metadata _ _ _ _ c.loop-i-test.true c.
 
 pub returns-then-comes_before : goal.returns-then-comes_before
 returns-then-comes_before c =
-    passed_here _ _ c.loop-i.invariant c.loop-i-test.true (entry (goal.at.returns-then-comes_before c).After-known_entry-entry).is (ahead (goal.at.returns-then-comes_before c).After-comes_before ∙ c.if-comes_before.true)
+    let x : EntryThere c.args.s.now c.loop-i.from c.known_entry-entry.result.parts c.known_entry-entry.result.next = entry-there _ _ c.known_entry-entry.ensures in
+    passed_here _ _ c.loop-i.invariant c.loop-i-test.true x.is (ahead (goal.at.returns-then-comes_before c).After-comes_before ∙ c.if-comes_before.true)
 
 pub loop-i-preserved : goal.loop-i-preserved
 loop-i-preserved c =
-    passed-turn _ _ c.loop-i.invariant c.loop-i-test.true (entry (goal.at.loop-i-preserved c).After-known_entry-entry).is (ahead (goal.at.loop-i-preserved c).After-comes_before ∙ c.if-comes_before.false)
+    let x : EntryThere c.args.s.now c.loop-i.from c.known_entry-entry.result.parts c.known_entry-entry.result.next = entry-there _ _ c.known_entry-entry.ensures in
+    passed-turn _ _ c.loop-i.invariant c.loop-i-test.true x.is (ahead (goal.at.loop-i-preserved c).After-comes_before ∙ c.if-comes_before.false)
 
 pub returns : goal.returns
 returns c = passed-end _ _ c.loop-i.invariant c.loop-i-test.false

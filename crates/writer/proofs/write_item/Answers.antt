@@ -63,14 +63,14 @@ returns-in-Of-clause-wrote c =
     let x = scalars (goal.at.returns-in-Of-clause-wrote c).In-Of in
     let a = c.args in
     let e = c.write_scalar-written.ensures in
-    wrote_as x.bytes e.1
+    wrote_as x.bytes e.wrote
 
 pub returns-in-Of-clause-next_value : goal.returns-in-Of-clause-next_value
 returns-in-Of-clause-next_value c =
     let x = scalars (goal.at.returns-in-Of-clause-next_value c).In-Of in
     let a = c.args in
     let e = c.write_scalar-written.ensures in
-    ap (λ n. To (a.at + n)) e.0 ∙ x.ends
+    ap (λ n. To (a.at + n)) e.value ∙ x.ends
 
 pub returns-in-Bad-clause-wrote : goal.returns-in-Bad-clause-wrote
 returns-in-Bad-clause-wrote c =

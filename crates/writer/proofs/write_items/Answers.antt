@@ -40,7 +40,7 @@ loop-i-preserved c =
     let l = c.loop-i in
     let a = c.args in
     let y = step_yes (run (item 1 a.t) a.s.now l.from) c.write_item-copied.ensures.next_value in
-    left-turn _ _ _ _ _ l.invariant c.loop-i-test.true y.is (ap (λ r. value_bytes 1 a.dialect (content_read r)) (sym y.is)) c.write_item-copied.ensures.wrote c.write_item-copied.auto.0
+    left-turn _ _ _ _ _ l.invariant c.loop-i-test.true y.is (ap (λ r. value_bytes 1 a.dialect (content_read r)) (sym y.is)) c.write_item-copied.ensures.wrote c.write_item-copied.auto.out
 
 pub returns-clause-wrote : goal.returns-clause-wrote
 returns-clause-wrote c = (left_end _ _ _ _ _ c.loop-i.invariant c.loop-i-test.false).0

@@ -11,4 +11,4 @@ returns-then-i-n-clause-wrote c = rw (lt-ltb _ _ c.if-i-n.true) c.put_number.ens
 
 pub returns-else-i-n-clause-wrote : goal.returns-else-i-n-clause-wrote
 unfolding length_bytes
-returns-else-i-n-clause-wrote c = (rw (le-ltb _ _ c.if-i-n.false) (refl, record { count = refl; bytes = refl })).1
+returns-else-i-n-clause-wrote c = rw (le-ltb _ _ c.if-i-n.false) (record { count = refl; bytes = refl })

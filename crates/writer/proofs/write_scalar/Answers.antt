@@ -9,16 +9,16 @@ pub returns-in-Refused-clause-value : goal.returns-in-Refused-clause-value
 returns-in-Refused-clause-value c =
     let a = c.args in
     let p = c.requires in
-    let r = ap as_number (sym c.in-Refused.is) ∙ c.number_at.ensures in absurd (scalar-none a.t a.s.now a.at p.1.0 (rw p.0 at r))
+    let r = ap as_number (sym c.in-Refused.is) ∙ c.number_at.ensures in absurd (scalar-none a.t a.s.now a.at p.at_value (rw p.width_value at r))
 
 pub returns-in-Refused-clause-wrote : goal.returns-in-Refused-clause-wrote
 returns-in-Refused-clause-wrote c =
     let a = c.args in
     let p = c.requires in
-    let r = ap as_number (sym c.in-Refused.is) ∙ c.number_at.ensures in absurd (scalar-none a.t a.s.now a.at p.1.0 (rw p.0 at r))
+    let r = ap as_number (sym c.in-Refused.is) ∙ c.number_at.ensures in absurd (scalar-none a.t a.s.now a.at p.at_value (rw p.width_value at r))
 
 pub returns-in-Value-clause-wrote : goal.returns-in-Value-clause-wrote
 returns-in-Value-clause-wrote c =
     let a = c.args in
     let p = c.requires in
-    let r = ap as_number (sym c.in-Value.is) ∙ c.number_at.ensures in rw (← p.0, scalar-some a.t a.s.now a.at p.1.0 (rw p.0 at r)) c.put_number.ensures.wrote
+    let r = ap as_number (sym c.in-Value.is) ∙ c.number_at.ensures in rw (← p.width_value, scalar-some a.t a.s.now a.at p.at_value (rw p.width_value at r)) c.put_number.ensures.wrote

@@ -54,7 +54,7 @@ loop-i-preserved c =
     let f = found (goal.at.loop-i-preserved c).In-Found in
     let p = sym c.lay.ensures ∙ c.in-At.is in
     let w = c.write_laid_tensor-done in
-    going_on _ _ _ _ c.loop-i.invariant c.loop-i-test.true f.is _ f.told p _ _ w.ensures.wrote w.auto.0
+    going_on _ _ _ _ c.loop-i.invariant c.loop-i-test.true f.is _ f.told p _ _ w.ensures.wrote w.auto.out
 
 pub returns : goal.returns
 returns c = going_end _ _ _ _ c.loop-i.invariant (omega arith)
