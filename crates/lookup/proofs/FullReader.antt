@@ -1,5 +1,5 @@
 -- The question for a tensor, against the whole reader: three ways that both go. Assumes nothing.
-use Prim.Native.Nat.{ℕ, ◌+◌, ◌≤◌}
+use Prim.Native.Nat.{ℕ, ◌≤◌}
 use mathlib.Core.Path.{◌≡◌, refl, sym, ap, ◌∙◌}
 use mathlib.Core.Bool.{false}
 use mathlib.Core.List.{List, [], ◌∷◌, ◌++◌}
@@ -8,7 +8,7 @@ use lib.ListN.{length}
 use Rattle.reading.specs.Back.{All}
 use Rattle.reading.specs.Ceilings.{Low, full}
 use Rattle.reading.specs.Each.{each, times, fold}
-use Rattle.reading.specs.Reading.{Reading, done, Answer, accepted, refused, run, ◌>>=◌, here, and_then, seen, passed}
+use Rattle.reading.specs.Reading.{Reading, Answer, accepted, refused, run, ◌>>=◌, here, and_then, seen, passed}
 use Rattle.reading.specs.Refusals.{OneOf, Refuses}
 use Rattle.reading.proofs.CeilingLaws.{low_run, low-each}
 use Rattle.reading.proofs.RefusalLaws.{listed_too, refuses_too}
@@ -30,9 +30,9 @@ use Rattle.start.proofs.StartMarks.{low-start}
 use Rattle.start.proofs.StartRefusals.{version_refusals, refuses_start}
 use Rattle.header.specs.Format.{FullHeader, judged, header}
 use Rattle.lookup.specs.Search.{Search, found, none, seek}
-use Rattle.lookup.specs.Tensors.{looked_tensor, first_tensor, has_name, onward, FirstOfName}
+use Rattle.lookup.specs.Tensors.{looked_tensor, first_tensor, has_name, FirstOfName}
 use Rattle.lookup.proofs.LookedTensor.{looked-tensor}
-use Rattle.lookup.proofs.SeekLaws.{Says, FoundAmong, NoneAmong, says}
+use Rattle.lookup.proofs.SeekLaws.{Says, says}
 
 -- entries end at the same place, or are refused the same, with any two caps
 entry-passed : (k : Dialect) (cap cap' : ℕ) (s : List ℕ) (p : ℕ) → passed (run (entry k cap) s p) ≡ passed (run (entry k cap') s p)

@@ -10,7 +10,7 @@ use Rattle.reading.specs.Reading.{done, Answer, accepted, refused, run, â—Œ>>=â—
 use Rattle.reading.proofs.RunLaws.{run_bind}
 use Rattle.reading.proofs.SureLaws.{sure_then, whatever}
 use Rattle.values.specs.Contents.{bytes_at}
-use Rattle.values.specs.Format.{text_looking, text, is_word}
+use Rattle.values.specs.Format.{text, is_word}
 use Rattle.values.specs.declared.Dialect.{Dialect}
 use Rattle.values.specs.declared.Span.{Span}
 use Rattle.values.proofs.Texts.{text-looked, word-told}

@@ -2,7 +2,7 @@
 -- header is read as before, and the bytes of its keys and strings are where they were. Assumes
 -- nothing.
 use Rattle.std.specs.Prelude.{if◌then◌else◌}
-use Prim.Native.Nat.{ℕ, ◌+◌}
+use Prim.Native.Nat.{ℕ}
 use mathlib.Core.Path.{◌≡◌, refl, sym, ap, subst, ◌∙◌}
 use mathlib.Core.List.{List, [], ◌∷◌, ◌++◌}
 use mathlib.Core.Bool.{Bool, true, false}
@@ -27,13 +27,12 @@ use Rattle.values.proofs.ValuesEnd.{text-there, entry_later}
 use Rattle.start.specs.Format.{enough}
 use Rattle.header.specs.Contents.{dialect_of}
 use Rattle.header.specs.Format.{FullHeader, header}
-use Rattle.header.specs.Spans.{SpansInside}
 use Rattle.header.proofs.SpansInside.{spans_within}
 use Rattle.lookup.specs.Questions.{sought, lookup_of, lookup, string_in, string_of, string_status, file_type_in, file_type_key}
 use Rattle.lookup.specs.declared.Sought.{Sought}
 use Rattle.lookup.specs.declared.Sought.TheVariants.{Present, Missing}
 use Rattle.lookup.specs.declared.Lookup.{Lookup}
-use Rattle.lookup.specs.declared.Lookup.TheVariants.{Found, Absent, Refused}
+use Rattle.lookup.specs.declared.Lookup.TheVariants.{Refused}
 use Rattle.lookup.specs.declared.FileTypeRead.TheVariants.{Refused as NotRead}
 
 module _ (s t : List ℕ) where

@@ -9,7 +9,7 @@ use native.Mathlib.Omega.{arith}
 use lib.ListN.{length}
 use Rattle.reading.specs.Back.{All}
 use Rattle.reading.specs.Each.{each, fold}
-use Rattle.reading.specs.Reading.{Reading, Answer, accepted, refused, run, ◌>>=◌, and_then, seen}
+use Rattle.reading.specs.Reading.{Reading, Answer, accepted, refused, run, and_then, seen}
 use Rattle.reading.proofs.Repetition.{first_more, first_stops}
 use Rattle.reading.proofs.RunLaws.{goes_on, stops}
 use Rattle.lookup.specs.Search.{Search, found, none, Looked, first_of, seek}

@@ -1,18 +1,16 @@
 -- What the answer to the question for a tensor means, in terms of the full reader (ceilings 3 and
 -- 39), whatever its cap and its tables are. Assumes nothing.
-use Rattle.std.specs.Prelude.{if◌then◌else◌}
-use Prim.Native.Nat.{ℕ, suc, ◌+◌, ◌≤◌}
+use Prim.Native.Nat.{ℕ, ◌+◌, ◌≤◌}
 use mathlib.Core.Path.{◌≡◌, refl, sym, ap, subst, ◌∙◌}
 use mathlib.Core.Bool.{Bool, true, false}
 use mathlib.Core.List.{List, [], ◌∷◌, ◌++◌, map}
-use mathlib.Core.Logic.{◌⊎◌, inl, inr}
+use mathlib.Core.Logic.{inl, inr}
 use native.Mathlib.Omega.{arith}
 use lib.Dec.{T}
 use lib.ListN.{length, take, drop, length-map}
 use lib.Seq.{take_at}
 use Rattle.reading.specs.Back.{All, Sure}
 use Rattle.reading.specs.Ceilings.{full}
-use Rattle.reading.specs.Each.{each}
 use Rattle.reading.specs.Reading.{Answer, accepted, refused, run, seen, final}
 use Rattle.reading.specs.Refusals.{is_one_of, OneOf}
 use Rattle.reading.proofs.CeilingLaws.{low_run}
@@ -28,7 +26,7 @@ use Rattle.tensors.specs.declared.Tensor.{Tensor}
 use Rattle.start.specs.Format.{enough}
 use Rattle.start.specs.declared.Rooms.{Rooms}
 use Rattle.start.specs.declared.Start.{Start}
-use Rattle.header.specs.Answers.{reader_run, outcome_of, reader_outcome}
+use Rattle.header.specs.Answers.{reader_run, reader_outcome}
 use Rattle.header.specs.Format.{FullHeader, judged, header}
 use Rattle.header.specs.declared.Header.{Header}
 use Rattle.header.proofs.Counted.{counted}
@@ -40,7 +38,7 @@ use Rattle.lookup.specs.Search.{Search, found, none, first_of}
 use Rattle.lookup.specs.Tensors.{first_tensor, tensor_found, tensor_lookup, has_name, row_has_name, Tells, onward, FirstOfName}
 use Rattle.lookup.specs.declared.TensorLookup.{TensorLookup}
 use Rattle.lookup.specs.declared.TensorLookup.TheVariants.{Found, Absent, Refused}
-use Rattle.lookup.proofs.FullReader.{record_refusals, Both, refused_both, found_at_first, found_none, NoneOfName, both}
+use Rattle.lookup.proofs.FullReader.{record_refusals, Both, refused_both, found_at_first, found_none, both}
 use Rattle.lookup.proofs.SeekLaws.{first-after, first-none, first-map}
 
 -- the last tests refuse 16 or 18

@@ -1,6 +1,5 @@
 -- `fetch_listing::put_lines` meets its contract. The invariant: what is put, with the lines of the
 -- rows that are left, is the whole text. Assumes nothing.
-use Prim.Native.Nat.{◌-◌}
 use native.Mathlib.Omega.{arith}
 use Rattle.text_out.proofs.Writing.{writing_turns, writing_ends}
 use Rattle.fetch_listing.proofs.Lines.{lines-turn, lines_end}

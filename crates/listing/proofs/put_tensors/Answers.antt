@@ -1,6 +1,5 @@
 -- `listing::put_tensors` meets its contract. The invariant: what is put, with the lines of the rows
 -- that are left, is the whole text. Assumes nothing.
-use Prim.Native.Nat.{◌-◌}
 use native.Mathlib.Omega.{arith}
 use Rattle.listing.specs.Text.{tensor_line}
 use Rattle.text_out.proofs.Writing.{writing_turns, writing_ends, rows-turn, rows_end}

@@ -1,6 +1,5 @@
 -- `lookup::find_last` meets its contract. The invariant: what is found so far, with the entries
 -- that are left, gives what all of them give. Assumes nothing.
-use Prim.Native.Nat.{◌-◌}
 use mathlib.Core.Path.{◌≡◌, sym, ap, ◌∙◌}
 use native.Mathlib.Omega.{arith}
 use Rattle.reading.specs.Reading.{accepted, run}

@@ -1,6 +1,5 @@
 -- `lookup::seek_tensor` meets its contract. The invariant: from here, with this total, the search
 -- through the tensors that are left comes to what the whole search does. Assumes nothing.
-use Prim.Native.Nat.{◌-◌}
 use mathlib.Core.Path.{◌≡◌, sym, ap, ◌∙◌}
 use native.Mathlib.Omega.{arith}
 use Rattle.reading.specs.Ceilings.{under, full}

@@ -2,18 +2,17 @@
 -- bytes, but for the sizes of texts, so that places and a count tell how long they are; arrays are
 -- taken one after the other. Assumes nothing.
 use borrow.Author.Tests.{eq-eqb, ne_eqb}
-use Prim.Native.Nat.{ℕ, suc, ◌+◌, ◌-◌, ◌*◌, ◌≤◌, ◌<◌}
-use mathlib.Core.Bool.{true}
+use Prim.Native.Nat.{ℕ, suc, ◌+◌, ◌-◌, ◌*◌, ◌≤◌}
 use mathlib.Core.Path.{◌≡◌, sym, ap, ◌∙◌}
 use mathlib.Core.List.{List}
 use native.Mathlib.Omega.{arith}
-use native.Mathlib.Nat.{sub-zero, mul_comm, mul-le-mul_right}
+use native.Mathlib.Nat.{mul_comm, mul-le-mul_right}
 use lib.ListN.{length}
 use Rattle.reading.specs.Back.{bytes_of_all}
-use Rattle.reading.specs.Reading.{Answer, accepted, run, is_accepted}
+use Rattle.reading.specs.Reading.{Answer, run}
 use Rattle.reading.proofs.Repetition.{times-accepted}
 use Rattle.reading.proofs.RunLaws.{not_there}
-use Rattle.fields.specs.Value.{number, as_number}
+use Rattle.fields.specs.Value.{as_number}
 use Rattle.values.specs.Contents.{ValueContent, Content, value_bytes}
 use Rattle.sheet.specs.Format.{array, item}
 use Rattle.sheet.proofs.BackFromAnswers.{step_no, step_yes, step_there, next-there}
@@ -21,8 +20,8 @@ use Rattle.sheet.proofs.SheetArrays.{array_deep}
 use Rattle.plan.specs.Steps.{taken_from}
 use Rattle.plan.proofs.Rooms.{taken_twice, taken_thrice, room-turn, room-end}
 use Rattle.plan.proofs.PartLengths.{size_cases, rows_more, rows_none}
-use Rattle.plan.proofs.ArraysSaid.{ArraySaid, no_type, no_count, of_arrays, of_plain}
-use Rattle.plan.proofs.ValueLengths.{wider, Measured, array_measure, heard_one}
+use Rattle.plan.proofs.ArraysSaid.{no_type, no_count, of_arrays, of_plain}
+use Rattle.plan.proofs.ValueLengths.{wider, array_measure, heard_one}
 use Rattle.plan.proofs.+array_room_arrays_room.Invariants.{arrays_length}
 use Rattle.plan.proofs.+array_room_arrays_room.Goals.{array_room-then-t-eq8, array_room-else-t-eq8}
 use Rattle.plan.proofs.+array_room_arrays_room.Goals as goal

@@ -1,8 +1,6 @@
 -- `plan::entries_room` meets its contract. The invariant: what is left, without the entries that
 -- are left, is what all of them leave. Assumes nothing.
-use Prim.Native.Nat.{◌-◌}
 use mathlib.Core.Path.{sym, ap, ◌∙◌}
-use mathlib.Core.Bool.{true}
 use native.Mathlib.Omega.{arith}
 use Rattle.plan.proofs.PlanTurns.{entry_here, entry-rest, entry_value, entry_taken, entries-ends}
 use Rattle.sheet.specs.Steps.{step_of}

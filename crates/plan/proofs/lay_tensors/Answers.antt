@@ -1,8 +1,6 @@
 -- `plan::lay_tensors` meets its contract. The invariant: the tensors that are left, after what is
 -- laid, give what all of them do. Assumes nothing.
-use Prim.Native.Nat.{◌-◌}
 use mathlib.Core.Path.{◌≡◌, sym, ◌∙◌}
-use mathlib.Core.Bool.{true}
 use native.Mathlib.Omega.{arith}
 use Rattle.reading.specs.Reading.{run}
 use Rattle.sheet.specs.Format.{tensor}

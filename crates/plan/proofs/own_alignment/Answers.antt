@@ -1,8 +1,6 @@
 -- `plan::own_alignment` meets its contract. The invariant: what is said so far, with the entries
 -- that are left, is what all of them say. Assumes nothing.
-use Prim.Native.Nat.{◌-◌}
 use mathlib.Core.Path.{sym, ap, ◌∙◌}
-use mathlib.Core.Bool.{true}
 use native.Mathlib.Omega.{arith}
 use Rattle.reading.specs.Reading.{is_accepted}
 use Rattle.reading.specs.Each.{fold}

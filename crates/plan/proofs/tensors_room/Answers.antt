@@ -1,8 +1,6 @@
 -- `plan::tensors_room` meets its contract. The invariant: what is left, without the tensors that
 -- are left, is what all of them leave. Assumes nothing.
-use Prim.Native.Nat.{◌-◌}
 use mathlib.Core.Path.{◌≡◌, sym, ap, ◌∙◌}
-use mathlib.Core.Bool.{true}
 use native.Mathlib.Omega.{arith}
 use Rattle.reading.specs.Reading.{run}
 use Rattle.sheet.specs.Format.{tensor}

@@ -1,8 +1,7 @@
 -- The proof of the cycle of calls {pass_array, pass_arrays}. An array asks for arrays at one depth
 -- less, and these for an array at their own. Assumes nothing.
-use mathlib.Core.Path.{◌≡◌, sym, ap, ◌∙◌}
+use mathlib.Core.Path.{sym, ap, ◌∙◌}
 use native.Mathlib.Omega.{arith}
-use Rattle.reading.specs.Reading.{accepted, run}
 use Rattle.reading.proofs.Repetition.{times-ends}
 use Rattle.fields.specs.Value.{as_number}
 use Rattle.sheet.specs.Steps.{step_of}

@@ -1,6 +1,5 @@
 -- `sheet::pass_items` meets its contract. The invariant: from here, the items that are left end
 -- where all of them do. Assumes nothing.
-use Prim.Native.Nat.{◌-◌}
 use mathlib.Core.Path.{sym, ap, ◌∙◌}
 use native.Mathlib.Omega.{arith}
 use Rattle.reading.proofs.Repetition.{times-ends}

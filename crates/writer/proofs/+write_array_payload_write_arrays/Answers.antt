@@ -1,7 +1,7 @@
 -- The proof of the cycle of calls {write_array_payload, write_arrays}, which lend each other the rest
 -- of the output. Assumes nothing.
 use borrow.Author.Rules.{rules}
-use Prim.Native.Nat.{ℕ, suc, ◌+◌, ◌-◌, ◌≤◌}
+use Prim.Native.Nat.{suc, ◌+◌, ◌-◌, ◌≤◌}
 use mathlib.Core.Path.{sym, ap, subst, ◌∙◌}
 use native.Mathlib.Omega.{arith}
 use lib.ListN.{length, length-take, length-drop}
@@ -74,7 +74,7 @@ write_array_payload-write_arrays-arrays-requires t c =
     let nested = of_arrays a.depth a.s.now a.at c.requires.at_value typed a.dialect counted c.if-t-eq9.true in
     let deep = array_deep a.s.now a.at a.depth c.requires.at_value in
     let room : 4 + size_width a.dialect + length (bytes_of_all (value_bytes (suc (a.depth - 1)) a.dialect) (got (run (times c.in-Value-number_at.n (array (a.depth - 1) (item (a.depth - 1)))) a.s.now c.in-Value-number_at.q))) ≤ length a.out.now =
-        rw nested.size at c.requires.at_in_bounds
+    rw nested.size at c.requires.at_in_bounds
     in
     (omega (arith, deep), (nested.there, search rules))
 
@@ -108,7 +108,7 @@ write_array_payload-write_items-items-requires-clause-at_in_bounds t c =
     let counted = ap as_number (sym c.in-Value-number_at.is) ∙ c.number_at-2.ensures in
     let plain = of_plain a.depth a.s.now a.at c.requires.at_value typed a.dialect counted c.if-t-eq9.false in
     let room : 4 + size_width a.dialect + length (bytes_of_all (value_bytes 1 a.dialect) (got (run (times c.in-Value-number_at.n (item 1 c.in-Value.t)) a.s.now c.in-Value-number_at.q))) ≤ length a.out.now =
-        rw plain.size at c.requires.at_in_bounds
+    rw plain.size at c.requires.at_in_bounds
     in
     search rules
 
@@ -151,4 +151,3 @@ write_arrays-returns-clause-wrote t c =
 pub write_arrays-returns-clause-next_value : goal.write_arrays-returns-clause-next_value
 write_arrays-returns-clause-next_value t c =
     (left_end _ _ _ _ _ c.loop-i.invariant c.loop-i-test.false).1
-

@@ -1,6 +1,5 @@
 -- `writer::entries_before` meets its contract. The invariant: those passed, with those of the
 -- others that come before, are all that do. Assumes nothing.
-use Prim.Native.Nat.{◌-◌}
 use mathlib.Core.Path.{◌≡◌, sym, ap, ◌∙◌}
 use Rattle.fields.specs.Order.{before}
 use Rattle.values.specs.Format.{alignment_key}

@@ -1,6 +1,6 @@
 -- `writer::write_header` meets its contract: a refusal of the plan leaves the output alone; else
 -- the plan's header is written, and zeros up to its data. Assumes nothing.
-use mathlib.Core.Path.{◌≡◌, refl, sym, ◌∙◌}
+use mathlib.Core.Path.{◌≡◌, sym, ◌∙◌}
 use native.Mathlib.Omega.{arith}
 use lib.ListN.{length, length-take, length-drop}
 use Rattle.fields.proofs.Chain.{chain}

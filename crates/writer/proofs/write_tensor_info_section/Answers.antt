@@ -1,7 +1,7 @@
 -- `writer::write_tensor_info_section` meets its contract: each turn writes the tensor that stands
 -- next in the sheet at the next offset, and a tensor that can't be laid was refused before. Assumes
 -- nothing.
-use Prim.Native.Nat.{◌+◌, ◌-◌, ◌≤◌}
+use Prim.Native.Nat.{◌+◌, ◌≤◌}
 use mathlib.Core.Path.{sym, ◌∙◌}
 use native.Mathlib.Omega.{arith}
 use lib.ListN.{length, length-take, length-drop}
