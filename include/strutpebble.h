@@ -1,9 +1,9 @@
 /* Strutpebble: GGUF model-file headers, read and written by proved code.
  *
- * Link libstrutpebble.a (rt staticlib strutpebble, or what ./install leaves); x86-64. It takes
- * memcpy and memset from the C library and nothing else, allocates nothing, keeps nothing between
- * calls, and needs some 5.5 KiB of stack, however deep arrays stand in one another. This header
- * wants C11 or C++11.
+ * Link libstrutpebble.a (what ./install leaves, or `rt lib` in crates/strutpebble); x86-64. It
+ * takes memcpy and memset from the C library and nothing else, allocates nothing, keeps nothing
+ * between calls, and needs some 5.5 KiB of stack, however deep arrays stand in one another. This
+ * header wants C11 or C++11.
  *
  * docs/REFUSALS.md has each refusal with its place and what to do about it. */
 #ifndef STRUTPEBBLE_H

@@ -18,7 +18,7 @@ fn main() {
     let Some(folder) = folders.iter().find(|folder| folder.join(ARCHIVE).exists()) else {
         let looked: Vec<_> = folders.iter().map(|folder| folder.display().to_string()).collect();
         eprintln!("strutpebble: there is no {ARCHIVE} in {}.", looked.join(" or "));
-        eprintln!("strutpebble: run `rt staticlib strutpebble` at the top of the repository,");
+        eprintln!("strutpebble: run `rt lib` in crates/strutpebble of the repository,");
         eprintln!("strutpebble: or set STRUTPEBBLE_LIB_DIR to the folder that has the archive.");
         exit(1);
     };
@@ -37,5 +37,5 @@ fn folders() -> Vec<PathBuf> {
     }
     let root = env::var_os("CARGO_MANIFEST_DIR").unwrap_or_default();
     let root = Path::new(&root);
-    vec![root.join("../lib"), root.join("../../target/staticlib")]
+    vec![root.join("../lib"), root.join("../../crates/strutpebble/out")]
 }

@@ -1,6 +1,8 @@
 /* A first use, as README.md has it: which bytes of the file hold each tensor.
  *
- *     cc -O2 -I include examples/c/first.c target/staticlib/libstrutpebble.a -o target/first
+ *     mkdir -p target
+ *     (cd crates/strutpebble && rt lib)
+ *     cc -O2 -I include examples/c/first.c crates/strutpebble/out/libstrutpebble.a -o target/first
  *     target/first <FILE
  */
 #include <inttypes.h>

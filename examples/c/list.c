@@ -1,7 +1,8 @@
 /* Lists the entries and the tensors of a GGUF file.
  *
- *     rt staticlib strutpebble
- *     cc -O2 -I include examples/c/list.c target/staticlib/libstrutpebble.a -o target/list
+ *     mkdir -p target
+ *     (cd crates/strutpebble && rt lib)
+ *     cc -O2 -I include examples/c/list.c crates/strutpebble/out/libstrutpebble.a -o target/list
  *     target/list FILE
  *
  * It reads the front of the file, 64 KiB at first, and twice as much each time that the header does
