@@ -112,7 +112,7 @@ static inline const char *sp_reason(uint64_t number) {
     case SP_BAD_TRACE: return "the trace is not well formed";
     case SP_TRACE_OVERFLOW: return "a fetch of the trace ends above 2^64 - 1";
     case SP_NO_ANSWER_ROWS: return "there are more tensors than answers for them";
-    case SP_ABSENT: return "no entry has this key, or no tensor has this name";
+    case SP_ABSENT: return "no entry has this key";
     case SP_OTHER_TYPE: return "the value of this key is not a string";
     case SP_UNKNOWN_FILE_TYPE: return "the file's type is unknown";
     default: return "no such number";
