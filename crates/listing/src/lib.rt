@@ -198,7 +198,7 @@ fn put_all(
 // The listing of a prefix, with the rows that are lent; they are left as the reader leaves them.
 // Answers how many bytes of out it takes.
 pub fn list(out: &mut [u8], s: &[u8], entries: &mut [EntryRow], tensors: &mut [TensorRow]) -> usize
-    ensures put { Put (text.listing_in (record { entries = length entries.entry.now; tensors = length tensors.old }) s.now) out.old out.new result }
+    ensures put { Put (text.listing_in (record { entries = length entries.old; tensors = length tensors.old }) s.now) out.old out.new result }
     ensures entries_after { entries.new ≡ filled entry_row entries.old (seen (λ w. w.entries) (reader_run full 3 entries.old tensors.old s.now)) }
     ensures tensors_after { tensors.new ≡ filled tensor_row tensors.old (seen (λ w. w.tensors) (reader_run full 3 entries.old tensors.old s.now)) }
 {
