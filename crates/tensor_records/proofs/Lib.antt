@@ -1,3 +1,4 @@
+pub mod LentAgain
 pub mod Chosen
 pub mod SeveralFacts
 pub mod Filled
