@@ -53,24 +53,19 @@ pub fn read_file(
 ) -> Option<usize>
     ensures { IfSome result (λ n. n ≤ length out.new) }
 {
-    match open(files, path) {
-        Ok(mut file) => {
-            let (n, _) = read_full(&mut file, out);
-            Some(n)
-        }
-        Err(error) => {
-            tell(errors, path, &error);
-            None
-        }
-    }
+    let mut file = open(files, path)
+        .inspect_err(|error| tell(errors, path, error))
+        .ok()?;
+    let (n, _) = read_full(&mut file, out);
+    Some(n)
 }
 
 // The file at a path, open for reading. Only a path that is text can be opened.
 fn open<F: Files>(files: &F, path: &[u8]) -> io::Result<F::File> {
-    match from_utf8(path) {
-        Ok(path) => File::open(files, path),
-        Err(_) => Err(io::Error::new(ErrorKind::InvalidInput, "the path is not UTF-8")),
-    }
+    let Ok(path) = from_utf8(path) else {
+        return Err(io::Error::new(ErrorKind::InvalidInput, "the path is not UTF-8"));
+    };
+    File::open(files, path)
 }
 
 // Writes a line: what failed, a colon and the system's words for the error. Where the line can't be
@@ -110,10 +105,10 @@ mod tests {
             if self.0 == 0 {
                 return Err(io::Error::from(ErrorKind::Other));
             }
-            if out.len() == 0 {
+            let [first, ..] = out else {
                 return Ok(0);
-            }
-            out[0] = self.0;
+            };
+            *first = self.0;
             self.0 -= 1;
             Ok(1)
         }

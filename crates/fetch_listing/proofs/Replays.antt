@@ -7,6 +7,7 @@ use mathlib.Core.List.{List, ◌++◌, map, map-id}
 use native.Mathlib.Omega.{arith}
 use lib.ListN.{length, drop}
 use borrow.Rule.Slice.PartMut.{mid_of}
+use Rattle.reading.specs.Replies.{gives, refuses}
 use Rattle.reading.specs.Back.{got, same}
 use Rattle.reading.specs.Ceilings.{full}
 use Rattle.reading.specs.Each.{filled}
@@ -20,7 +21,6 @@ use Rattle.listing.specs.Text.{refusal_line}
 use Rattle.listing.proofs.RowsListed.{Told, first_rows, whole_of}
 use Rattle.fetches.specs.Replay.{replayed, reply_to}
 use Rattle.fetches.specs.Trace.{fetches}
-use Rattle.fetches.specs.declared.Replay.TheVariants.{Answered, Refused}
 use Rattle.fetches.proofs.Records.{answered}
 use Rattle.fetches.proofs.Tables.{answers_fit, answers_count, records-count}
 use Rattle.fetch_listing.specs.Text.{lines_of, replay_text, replay_over, fetch_text}
@@ -33,7 +33,7 @@ module _ (s : List ℕ) (rows : List (List ℕ)) (old trace : List ℕ) where
   lines-by (accepted l q) h count e f = rw (e, first_rows same l (length rows) old count, map-id l, f)
   lines-by (refused n p) h count e f = let z : ◌≡◌ {A = ℕ} 0 1 = cc in absurd (omega arith)
 
-  refusal-by : (r : Answer (List ℕ)) {n p : ℕ} → Refused n p ≡ reply_to r → refusal_line n p ≡ replay_text s rows trace r
+  refusal-by : (r : Answer (List ℕ)) {n p : ℕ} → refuses n p ≡ reply_to r → refusal_line n p ≡ replay_text s rows trace r
   unfolding replay_text
   refusal-by (accepted l q) e = let z : ◌≡◌ {A = ℕ} 0 1 = cc in absurd (omega arith)
   refusal-by (refused m o) {n} {p} e =
@@ -42,17 +42,17 @@ module _ (s : List ℕ) (rows : List (List ℕ)) (old trace : List ℕ) where
       rw (i, j) refl
 
   module _ (start file : ℕ) where
-    pub rows_fit : Answered ≡ reply_to (replayed rows start file trace (length old)) → length rows ≤ length old
+    pub rows_fit : gives tt ≡ reply_to (replayed rows start file trace (length old)) → length rows ≤ length old
     rows_fit e = answers_fit rows start file (length old) trace (answered (replayed rows start file trace (length old)) (sym e))
 
-    pub lines-replayed : {table : List ℕ} → Answered ≡ reply_to (replayed rows start file trace (length old)) → table ≡ filled same old (replayed rows start file trace (length old))
+    pub lines-replayed : {table : List ℕ} → gives tt ≡ reply_to (replayed rows start file trace (length old)) → table ≡ filled same old (replayed rows start file trace (length old))
         → lines_of (length trace / 20) s rows (mid_of 0 (length rows - 0) table) ≡ replay_text s rows trace (replayed rows start file trace (length old))
     lines-replayed e f =
         let a = answered (replayed rows start file trace (length old)) (sym e) in
         let long = records-count rows start file (length old) trace a in
         lines-by _ a (answers_count rows start file (length old) trace a) f (omega arith)
 
-    pub refusal-replayed : {n p : ℕ} → Refused n p ≡ reply_to (replayed rows start file trace (length old)) → refusal_line n p ≡ replay_text s rows trace (replayed rows start file trace (length old))
+    pub refusal-replayed : {n p : ℕ} → refuses n p ≡ reply_to (replayed rows start file trace (length old)) → refusal_line n p ≡ replay_text s rows trace (replayed rows start file trace (length old))
     refusal-replayed e = refusal-by _ e
 
 -- over the rows that a header counts

@@ -17,8 +17,7 @@ ghost use Rattle.text_out.specs.Put.{Put};
 ghost use Rattle.values.specs.Rows.{entry_row};
 ghost use Rattle.fetch_listing.specs.Text as text;
 
-use fetches::{NEVER, Replay};
-use header::HeaderRead;
+use fetches::NEVER;
 use key_order::name_in;
 use listing::put_refusal;
 use reading::Limits;
@@ -50,13 +49,9 @@ fn put_lines(out: &mut [u8], s: &[u8], tensors: &[TensorRow], answers: &[u64]) -
     requires { length tensors.now ≤ length answers.now }
     ensures { Put (text.record_lines s.now tensors.now answers.now) out.old out.new result }
 {
-    let mut n: usize = 0;
-    let mut i: usize = 0;
-    while i < tensors.len() {
-        let row = tensors[i];
-        let number = answers[i];
-        n += put_line(&mut out[n..], s, row, number);
-        i += 1;
+    let mut n = 0;
+    for (row, number) in tensors.iter().zip(answers) {
+        n += put_line(&mut out[n..], s, *row, *number);
     }
     n
 }
@@ -99,11 +94,8 @@ fn put_replay(
     ensures answers_after { answers.new ≡ filled same answers.old (replayed tensors.now start file trace.now (length answers.old)) }
 {
     match fetches::replay_fetches(tensors, start, file, trace, answers) {
-        Replay::Refused { why, place } => put_refusal(out, why, place),
-        Replay::Answered => {
-            let n = tensors.len();
-            put_all(out, trace.len() / 20, s, tensors, &answers[0..n])
-        }
+        Err(refused) => put_refusal(out, refused.why.number(), refused.place),
+        Ok(()) => put_all(out, trace.len() / 20, s, tensors, &answers[..tensors.len()]),
     }
 }
 
@@ -124,15 +116,11 @@ pub fn list_fetches(
     ensures tensors_after { tensors.new ≡ filled tensor_row tensors.old (seen (λ w. w.tensors) (reader_run full 3 entries.old tensors.old s.now)) }
     ensures answers_after { answers.new ≡ filled same answers.old (text.replay_over (reader_run full 3 entries.old tensors.old s.now) file trace.now (length answers.old)) }
 {
-    let limits = Limits {
-        versions: 3,
-        kinds: 39,
-    };
-    match header::read(s, limits, 3, entries, tensors) {
-        HeaderRead::Refused { why, place } => put_refusal(out, why, place),
-        HeaderRead::Found { header } => {
+    match header::read(s, Limits::FULL, 3, entries, tensors) {
+        Err(refusal) => put_refusal(out, refusal.why.number(), refusal.place),
+        Ok(header) => {
             let t = header.tensors as usize;
-            put_replay(out, s, &tensors[0..t], header.start, file, trace, answers)
+            put_replay(out, s, &tensors[..t], header.start, file, trace, answers)
         }
     }
 }

@@ -9,6 +9,7 @@ use native.Mathlib.Nat.{sub-zero}
 use lib.ListN.{length, take, drop, get_or, set, length-map, take-append-drop, drop_of_length-le}
 use lib.Seq.{drop-cons}
 use borrow.Author.Tests.{le-leb, lt-leb}
+use Rattle.reading.specs.Replies.{gives, refuses}
 use Rattle.reading.specs.Back.{got, same}
 use Rattle.reading.specs.Each.{filled}
 use Rattle.reading.specs.Reading.{Answer, accepted, refused, is_accepted, seen}
@@ -16,7 +17,6 @@ use Rattle.reading.proofs.Repetition.{row_cons}
 use Rattle.fetches.specs.Trace.{fetches}
 use Rattle.fetches.specs.Replay.{answer_of, replayed, reply_to}
 use Rattle.fetches.specs.declared.Fetch.{Fetch}
-use Rattle.fetches.specs.declared.Replay.TheVariants.{Answered, Refused}
 
 module _ (g : List ℕ → ℕ) (rows : List (List ℕ)) where
   -- the table, where the first i rows have their answers, once the others have theirs
@@ -58,7 +58,7 @@ module _ (rows : List (List ℕ)) (start file : ℕ) where
     all-written h a = ap (filled same old) (with_room s h) ∙ all-by (fetches s) old a
 
     -- no room: its refusal, and the table as it was
-    pub no_room : length old < length rows → (Refused 45 0 ≡ reply_to (replayed rows start file s (length old))) × (old ≡ filled same old (replayed rows start file s (length old)))
+    pub no_room : length old < length rows → (refuses 45 0 ≡ reply_to (replayed rows start file s (length old))) × (old ≡ filled same old (replayed rows start file s (length old)))
     unfolding replayed
     no_room h = rw (lt-leb (length rows) (length old) h) (refl, refl)
 
@@ -68,21 +68,21 @@ module _ (rows : List (List ℕ)) (start file : ℕ) where
   got-all (accepted l q) h = refl
   got-all (refused n p) h = let z : ◌≡◌ {A = ℕ} 0 1 = cc in absurd (omega arith)
 
-  refused-by : (r : Answer (List Fetch)) (old : List ℕ) (n p : ℕ) → Refused n p ≡ reply_to r → (Refused n p ≡ reply_to (seen all_of r)) × (old ≡ filled same old (seen all_of r))
+  refused-by : (r : Answer (List Fetch)) (old : List ℕ) (n p : ℕ) → refuses n p ≡ reply_to r → (refuses n p ≡ reply_to (seen all_of r)) × (old ≡ filled same old (seen all_of r))
   unfolding seen
   refused-by (accepted l q) old n p e = let z : ◌≡◌ {A = ℕ} 0 1 = cc in absurd (omega arith)
   refused-by (refused m o) old n p e = (e, refl)
 
-  answered-by : (r : Answer (List Fetch)) → Answered ≡ reply_to r → (is_accepted r ≡ true) × (Answered ≡ reply_to (seen all_of r))
+  answered-by : (r : Answer (List Fetch)) → gives tt ≡ reply_to r → (is_accepted r ≡ true) × (gives tt ≡ reply_to (seen all_of r))
   unfolding seen
   answered-by (accepted l q) e = (refl, refl)
   answered-by (refused n p) e = let z : ◌≡◌ {A = ℕ} 0 1 = cc in absurd (omega arith)
 
   module _ (s old : List ℕ) (h : length rows ≤ length old) where
     -- a trace that is refused: likewise
-    pub trace-refused : (n p : ℕ) → Refused n p ≡ reply_to (fetches s) → (Refused n p ≡ reply_to (replayed rows start file s (length old))) × (old ≡ filled same old (replayed rows start file s (length old)))
+    pub trace-refused : (n p : ℕ) → refuses n p ≡ reply_to (fetches s) → (refuses n p ≡ reply_to (replayed rows start file s (length old))) × (old ≡ filled same old (replayed rows start file s (length old)))
     trace-refused n p e = rw (with_room s h) (refused-by (fetches s) old n p e)
 
     -- a trace that is well formed: all is answered
-    pub trace-answered : Answered ≡ reply_to (fetches s) → (is_accepted (fetches s) ≡ true) × (Answered ≡ reply_to (replayed rows start file s (length old)))
+    pub trace-answered : gives tt ≡ reply_to (fetches s) → (is_accepted (fetches s) ≡ true) × (gives tt ≡ reply_to (replayed rows start file s (length old)))
     trace-answered e = rw (with_room s h) (answered-by (fetches s) e)

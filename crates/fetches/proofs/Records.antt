@@ -1,5 +1,6 @@
 -- The records of a trace: what one that was read is, and the turns of a check of them all. Assumes
 -- nothing.
+use Rattle.reading.specs.Replies.{Reply, gives, refuses}
 use Rattle.std.specs.Prelude.{if◌then◌else◌}
 use Prim.Native.Nat.{ℕ, zero, suc, ◌+◌, ◌-◌, ◌*◌, ◌^◌, ◌≤◌, ◌<◌}
 use mathlib.Core.Path.{◌≡◌, refl, sym, ap, ◌∙◌}
@@ -23,8 +24,6 @@ use Rattle.fetches.specs.Trace.{fetch_of, fetch_at, fetch_end, fetch, trace, sta
 use Rattle.fetches.specs.Replay.{reply_to}
 use Rattle.fetches.specs.Sweep.{nth}
 use Rattle.fetches.specs.declared.Fetch.{Fetch}
-use Rattle.fetches.specs.declared.Replay.{Replay}
-use Rattle.fetches.specs.declared.Replay.TheVariants.{Answered, Refused}
 
 -- bytes of a part of a list are bytes of the list
 pub part : (k w n : ℕ) (l : List ℕ) → k + w ≤ n → take w (drop k (take n l)) ≡ take w (drop k l)
@@ -139,10 +138,10 @@ module _ (s : List ℕ) where
     fetched i g = let t = traced in (t.list.each i (1 + 20 * i) (omega (arith, t.list.count)) refl).1
 
   -- what the check of the records from a place on answers
-  abbrev pub rest : ℕ → Replay
+  abbrev pub rest : ℕ → Reply (Unit {0})
   rest at = reply_to (cut_is43 (passed (run (times (starting (length s - at)) fetch) s at)))
 
-  pub rest_end : (at : ℕ) → length s ≤ at → rest at ≡ Answered
+  pub rest_end : (at : ℕ) → length s ≤ at → rest at ≡ gives tt
   unfolding run each seen
   rest_end at h = let k : starting (length s - at) ≡ 0 = omega arith in rw k
 
@@ -150,25 +149,25 @@ module _ (s : List ℕ) where
     turn : starting (length s - at) ≡ suc (starting (length s - (at + 20)))
     turn = omega arith
 
-    rest-stops : {n p : ℕ} → refused n p ≡ run fetch s at → rest at ≡ Refused (if eqb n 1 then 43 else n) p
+    rest-stops : {n p : ℕ} → refused n p ≡ run fetch s at → rest at ≡ refuses (if eqb n 1 then 43 else n) p
     rest-stops e = rw (turn, times_none fetch s at (starting (length s - (at + 20))) e)
 
     -- the four ways to go on
-    pub rest-cut : length s - at < 20 → rest at ≡ Refused 43 at
+    pub rest-cut : length s - at < 20 → rest at ≡ refuses 43 at
     rest-cut g = rest-stops (sym (fetch-cut s at (omega arith)))
 
     module _ (g : at + 20 ≤ length s) where
-      pub rest-long : (value true (take 4 (drop at s)) ≡ 16 → ⊥) → rest at ≡ Refused 43 at
+      pub rest-long : (value true (take 4 (drop at s)) ≡ 16 → ⊥) → rest at ≡ refuses 43 at
       rest-long e = rest-stops (sym (fetch-long s at g (ne_eqb _ _ e)))
 
-      pub rest_far : value true (take 4 (drop at s)) ≡ 16 → 2 ^ 64 ≤ fetch_end (fetch_at s at) → rest at ≡ Refused 44 at
+      pub rest_far : value true (take 4 (drop at s)) ≡ 16 → 2 ^ 64 ≤ fetch_end (fetch_at s at) → rest at ≡ refuses 44 at
       rest_far e f = rest-stops (sym (fetch_far s at g (eq-eqb _ _ e) (le-ltb _ _ f)))
 
       pub rest-on : value true (take 4 (drop at s)) ≡ 16 → fetch_end (fetch_at s at) < 2 ^ 64 → rest at ≡ rest (at + 20)
       rest-on e f = rw (turn, times-first fetch s at (starting (length s - (at + 20))) (sym (fetch-good s at g (eq-eqb _ _ e) (lt-ltb _ _ f))))
 
 -- what is answered is accepted
-pub answered : {A : Type 0} (r : Answer A) → reply_to r ≡ Answered → is_accepted r ≡ true
+pub answered : {A : Type 0} (r : Answer A) → reply_to r ≡ gives tt → is_accepted r ≡ true
 answered (accepted a q) e = refl
 answered (refused n p) e = let z : ◌≡◌ {A = ℕ} 0 1 = cc in absurd (omega arith)
 
@@ -180,12 +179,12 @@ reply-passed (refused n p) = refl
 
 -- the check of the version
 module _ (s : List ℕ) where
-  pub no_version : length s ≡ 0 → reply_to (fetches s) ≡ Refused 43 0
+  pub no_version : length s ≡ 0 → reply_to (fetches s) ≡ refuses 43 0
   unfolding fetches trace
   no_version h = rw (stops (number 1 true) _ s 0 (sym (number-missing 1 true s 0 (omega arith))))
 
   module _ (h : 0 < length s) where
-    pub other-version : (value true (take 1 (drop 0 s)) ≡ 1 → ⊥) → reply_to (fetches s) ≡ Refused 43 0
+    pub other-version : (value true (take 1 (drop 0 s)) ≡ 1 → ⊥) → reply_to (fetches s) ≡ refuses 43 0
     unfolding fetches trace
     other-version e =
         rw (goes_on (number 1 true) _ s 0 (sym (number-there 1 true s 0 (omega arith))), test_fails 43 0 (times (starting (length s - 1)) fetch) s (0 + 1) (ne_eqb _ _ e))
@@ -202,7 +201,7 @@ module _ (s : List ℕ) where
 
   -- a well-formed trace is accepted
   module _ {n : ℕ} (t : Whole s n) where
-    rest-good : (k i : ℕ) → i + k ≡ n → rest s (1 + 20 * i) ≡ Answered
+    rest-good : (k i : ℕ) → i + k ≡ n → rest s (1 + 20 * i) ≡ gives tt
     rest-good zero i e = rest_end s (1 + 20 * i) (omega (arith, t.long))
     rest-good (suc k) i e =
         let g = t.good i (omega arith) in

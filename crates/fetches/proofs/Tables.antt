@@ -1,5 +1,6 @@
 -- The same of a call, its answer and the table that it leaves: what each answer tells of its row, and
 -- what a longer trace changes. Assumes nothing.
+use Rattle.reading.specs.Replies.{Reply, gives}
 use Rattle.std.specs.Prelude.{if◌then◌else◌}
 use Prim.Native.Nat.{ℕ, zero, suc, ◌+◌, ◌*◌, ◌^◌, ◌≤◌, ◌<◌}
 use mathlib.Core.Path.{◌≡◌, refl, sym, ap, ◌∙◌}
@@ -16,8 +17,6 @@ use Rattle.reading.proofs.RunLaws.{accepted-seen}
 use Rattle.rows.specs.Columns.{offset_in, size_in}
 use Rattle.fetches.specs.Trace.{fetches}
 use Rattle.fetches.specs.Replay.{never, answer_of, replayed, reply_to}
-use Rattle.fetches.specs.declared.Replay.{Replay}
-use Rattle.fetches.specs.declared.Replay.TheVariants.{Answered}
 use Rattle.fetches.proofs.Fills.{all_of, got-all, with_room, all-written}
 use Rattle.fetches.proofs.Longer.{doubled, begins, further, again, accepted-again, among-again}
 use Rattle.fetches.proofs.Meaning.{Complete, Told, told, never-told}
@@ -33,7 +32,7 @@ same-items f g e [] = refl
 same-items f g e (row ∷ rows) = rw (e row, same-items f g e rows)
 
 -- what is accepted is answered
-reply-accepted : {A : Type 0} (r : Answer A) → is_accepted r ≡ true → reply_to r ≡ Answered
+reply-accepted : {A : Type 0} (r : Answer A) → is_accepted r ≡ true → reply_to r ≡ gives tt
 reply-accepted (accepted a q) h = refl
 reply-accepted (refused n p) h = let z : ◌≡◌ {A = ℕ} 0 1 = cc in absurd (omega arith)
 
@@ -59,14 +58,14 @@ module _ (rows : List (List ℕ)) (start file room : ℕ) (s : List ℕ) (a : is
 
 module _ (rows : List (List ℕ)) (start file : ℕ) (old : List ℕ) where
   -- what a call over the trace s answers
-  abbrev pub reply : List ℕ → Replay
+  abbrev pub reply : List ℕ → Reply (Unit {0})
   reply s = reply_to (replayed rows start file s (length old))
 
   -- and the table that it leaves of the old one
   abbrev pub table : List ℕ → List ℕ
   table s = filled same old (replayed rows start file s (length old))
 
-  module _ (s : List ℕ) (e : reply s ≡ Answered) where
+  module _ (s : List ℕ) (e : reply s ≡ gives tt) where
     fits : length rows ≤ length old
     fits = answers_fit rows start file (length old) s (answered (replayed rows start file s (length old)) e)
 
@@ -83,7 +82,7 @@ module _ (rows : List (List ℕ)) (start file : ℕ) (old : List ℕ) where
         let inside : i < length all = rw (length-map rows (answer_of start file (got (fetches s)))) h in
         ap (λ l. get_or l i 0) table_is ∙ get_or-append all (drop (length rows) old) 0 i inside ∙ item_of (answer_of start file (got (fetches s))) rows i h
 
-  module _ (s : List ℕ) (e : reply s ≡ Answered) where
+  module _ (s : List ℕ) (e : reply s ≡ gives tt) where
     module _ (i : ℕ) (h : i < length rows) where
       -- the bytes of row i are complete after so many records
       abbrev pub CompleteAfter : ℕ → Type 0
@@ -98,7 +97,7 @@ module _ (rows : List (List ℕ)) (start file : ℕ) (old : List ℕ) where
       never-complete few = never-told file (got (fetches s)) _ _ _ row_told (omega (arith, (whole s (good-trace s e)).long))
 
       -- further records change no answer but never
-      pub answer-stays : (t : List ℕ) → reply (s ++ t) ≡ Answered → (get_or (table s) i 0 ≡ never → ⊥) → get_or (table (s ++ t)) i 0 ≡ get_or (table s) i 0
+      pub answer-stays : (t : List ℕ) → reply (s ++ t) ≡ gives tt → (get_or (table s) i 0 ≡ never → ⊥) → get_or (table (s ++ t)) i 0 ≡ get_or (table s) i 0
       answer-stays t f known =
           let row = get_or rows i [] in
           let longer = begins s t (good-trace s e) (good-trace (s ++ t) f) in
@@ -116,7 +115,7 @@ module _ (rows : List (List ℕ)) (start file : ℕ) (old : List ℕ) where
       again-formed : is_accepted (fetches longer) ≡ true
       again-formed = accepted-again s (good-trace s e) j recorded
 
-      pub answered-again : reply longer ≡ Answered
+      pub answered-again : reply longer ≡ gives tt
       answered-again =
           rw (with_room rows start file longer (fits s e)) (reply-accepted (seen (all_of rows start file) (fetches longer)) (accepted-seen (all_of rows start file) (fetches longer) ∙ again-formed))
 

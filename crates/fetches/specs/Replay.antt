@@ -5,8 +5,7 @@ use Rattle.reading.specs.Reading.{Answer, accepted, refused, seen}
 use Rattle.rows.specs.Columns.{offset_in, size_in}
 use Rattle.fetches.specs.Trace.{fetch_end, fetches}
 use Rattle.fetches.specs.declared.Fetch.{Fetch}
-use Rattle.fetches.specs.declared.Replay.{Replay}
-use Rattle.fetches.specs.declared.Replay.TheVariants.{Answered, Refused}
+use Rattle.reading.specs.Replies.{Reply, gives, refuses}
 
 -- the answer that says never
 abbrev pub never : ℕ
@@ -51,6 +50,6 @@ abbrev pub replay_refusals : List ℕ
 replay_refusals = 43 ∷ 44 ∷ 45 ∷ []
 
 -- what the code answers beside the table
-abbrev pub reply_to : {A : Type 0} → Answer A → Replay
-reply_to (accepted a q) = Answered
-reply_to (refused n p) = Refused n p
+abbrev pub reply_to : {A : Type 0} → Answer A → Reply (Unit {0})
+reply_to (accepted a q) = gives tt
+reply_to (refused n p) = refuses n p

@@ -9,26 +9,21 @@
 // looks at R records.
 #![tactic(auto)]
 
-ghost use Rattle.std.specs.Prelude.{◌≡◌, true, ℕ, ◌+◌, ◌-◌, ◌≤◌, ◌<◌, ◌^◌, max, length};
+ghost use Rattle.std.specs.Prelude.{◌≡◌, true, ℕ, ◌+◌, ◌-◌, ◌≤◌, ◌<◌, ◌^◌, length};
 ghost use Rattle.reading.specs.Back.{got, same};
 ghost use Rattle.reading.specs.Each.{filled};
 ghost use Rattle.reading.specs.Reading.{is_accepted};
+ghost use Rattle.reading.specs.Replies.{as_reply};
 ghost use Rattle.fetches.specs.Trace.{fetch_at, fetches};
 ghost use Rattle.fetches.specs.Replay.{first_after, replayed, reply_to};
 ghost use Rattle.fetches.specs.Sweep.{Misses, Settles, Steps};
 
 use fields::{GREATEST, Width};
+use reading::{Reason, Refusal};
 use rows::{OFFSET, SIZE, TensorRow};
 
 // The answer where some byte is never delivered.
 pub const NEVER: u64 = GREATEST;
-
-// The answers are in the table; or a refusal's number and place.
-#[derive(Clone, Copy)]
-pub enum Replay {
-    Answered,
-    Refused { why: u64, place: usize },
-}
 
 // What a record of a trace fetched: so many bytes of the file, from an offset on.
 #[derive(Clone, Copy)]
@@ -51,13 +46,6 @@ pub struct Sweep {
     pub reach: u64,
 }
 
-// The greater of two numbers.
-fn greater(a: u64, b: u64) -> u64
-    ensures { result ≡ max a b }
-{
-    if a < b { b } else { a }
-}
-
 // How many records are settled, where the next one delivers nothing more either.
 fn settled_past(settled: usize, next: usize) -> usize
     requires { next + 1 < 2 ^ 64 }
@@ -67,24 +55,26 @@ fn settled_past(settled: usize, next: usize) -> usize
 }
 
 // The sweep past a record that delivers nothing of the tensor from `from` on.
+#[tactic(auto, using(crate::proofs::Steps::quiet_step))]
 fn past_nothing(mut w: Sweep) -> Sweep
     requires { w.next + 1 < 2 ^ 64 }
     ensures { (a b end : ℕ) → Misses w a b end → Steps w a b end result }
 {
     w.settled = settled_past(w.settled, w.next);
-    w.next = w.next + 1;
+    w.next += 1;
     w
 }
 
 // The sweep past a record that delivers the bytes from `from` to b. It is needed, because no record
 // before it delivers the byte at `from`.
+#[tactic(auto, using(crate::proofs::Steps::front_step, crate::proofs::Steps::closing_step))]
 fn past_front(mut w: Sweep, b: u64, end: u64) -> Sweep
     requires { (w.next + 1 < 2 ^ 64) × (w.from < b) }
     ensures { (a : ℕ) → a ≤ w.from → Steps w a b end result }
 {
     let settled = settled_past(w.settled, w.next);
-    w.next = w.next + 1;
-    w.used = greater(w.used, w.next as u64);
+    w.next += 1;
+    w.used = w.used.max(w.next as u64);
     if b < w.gap {
         w.settled = settled;
         w.from = b;
@@ -92,31 +82,25 @@ fn past_front(mut w: Sweep, b: u64, end: u64) -> Sweep
     }
     // the gap is closed: back to the first record that may deliver what follows
     w.next = w.settled;
-    w.from = greater(b, w.reach);
+    w.from = b.max(w.reach);
     w.gap = end;
     w.reach = end;
     w
 }
 
 // The sweep past a record that delivers the bytes from a to b, after `from`.
+#[tactic(auto, using(crate::proofs::Steps::end_step, crate::proofs::Steps::middle_step, crate::proofs::Steps::reach_step, crate::proofs::Steps::far_step))]
 fn past_later(mut w: Sweep, a: u64, b: u64) -> Sweep
     requires { (w.next + 1 < 2 ^ 64) × (w.from < a) }
     ensures { (end : ℕ) → Steps w a b end result }
 {
-    w.next = w.next + 1;
+    w.next += 1;
     if a < w.gap {
         // the end of the gap; or its middle, and then what is known past it is given up
-        if w.gap <= b {
-            w.gap = a;
-            w.reach = greater(b, w.reach);
-            return w;
-        }
+        w.reach = if w.gap <= b { b.max(w.reach) } else { b };
         w.gap = a;
-        w.reach = b;
-        return w;
-    }
-    if a <= w.reach {
-        w.reach = greater(b, w.reach);
+    } else if a <= w.reach {
+        w.reach = b.max(w.reach);
     }
     w
 }
@@ -126,16 +110,13 @@ fn step(w: Sweep, a: u64, b: u64, end: u64) -> Sweep
     requires { w.next + 1 < 2 ^ 64 }
     ensures { Steps w a b end result }
 {
-    if b <= w.from {
-        return past_nothing(w);
+    if b <= w.from || end <= a {
+        past_nothing(w)
+    } else if a <= w.from {
+        past_front(w, b, end)
+    } else {
+        past_later(w, a, b)
     }
-    if end <= a {
-        return past_nothing(w);
-    }
-    if a <= w.from {
-        return past_front(w, b, end);
-    }
-    past_later(w, a, b)
 }
 
 // What a record of 20 bytes that are there fetched.
@@ -163,6 +144,7 @@ fn swept(trace: &[u8], lo: u64, end: u64) -> u64
         gap: end,
         reach: end,
     };
+    // a `while`, because a sweep goes back
     while w.next < n {
         let f = fetch_in(trace, 1 + 20 * w.next);
         w = step(w, f.offset, f.offset + f.count, end);
@@ -174,6 +156,7 @@ fn swept(trace: &[u8], lo: u64, end: u64) -> u64
 }
 
 // The answer for a tensor of so many bytes, at an offset from start.
+#[tactic(auto, using(crate::proofs::Sweeps::none_wanted, crate::proofs::Sweeps::cut_off))]
 fn answer_for(trace: &[u8], start: u64, offset: u64, size: u64, file: u64) -> u64
     requires { is_accepted (fetches trace.now) ≡ true }
     ensures { result ≡ first_after file (got (fetches trace.now)) (start + offset) size }
@@ -188,30 +171,31 @@ fn answer_for(trace: &[u8], start: u64, offset: u64, size: u64, file: u64) -> u6
 }
 
 // Whether a trace is well formed.
-fn check_trace(trace: &[u8]) -> Replay
-    ensures { result ≡ reply_to (fetches trace.now) }
+fn check_trace(trace: &[u8]) -> Result<(), Refusal>
+    ensures { as_reply result ≡ reply_to (fetches trace.now) }
 {
-    if trace.len() == 0 {
-        return Replay::Refused { why: 43, place: 0 };
+    if trace.is_empty() || trace[0] != 1 {
+        return Err(Refusal {
+            why: Reason::BadTrace,
+            place: 0,
+        });
     }
-    if trace[0] != 1 {
-        return Replay::Refused { why: 43, place: 0 };
-    }
-    let mut at: usize = 1;
-    while at < trace.len() {
-        if trace.len() - at < 20 {
-            return Replay::Refused { why: 43, place: at };
-        }
-        if fields::value_in(trace, at, Width::Four, true) != 16 {
-            return Replay::Refused { why: 43, place: at };
+    for at in (1..trace.len()).step_by(20) {
+        if trace.len() - at < 20 || fields::value_in(trace, at, Width::Four, true) != 16 {
+            return Err(Refusal {
+                why: Reason::BadTrace,
+                place: at,
+            });
         }
         let f = fetch_in(trace, at);
-        if GREATEST - f.offset < f.count {
-            return Replay::Refused { why: 44, place: at };
+        if f.offset.checked_add(f.count).is_none() {
+            return Err(Refusal {
+                why: Reason::TraceOverflow,
+                place: at,
+            });
         }
-        at += 20;
     }
-    Replay::Answered
+    Ok(())
 }
 
 // The answer of each row, in the table.
@@ -219,11 +203,9 @@ fn fill(rows: &[TensorRow], start: u64, file: u64, trace: &[u8], answers: &mut [
     requires { (is_accepted (fetches trace.now) ≡ true) × (length rows.now ≤ length answers.old) }
     ensures { answers.new ≡ filled same answers.old (replayed rows.now start file trace.now (length answers.old)) }
 {
-    let mut i: usize = 0;
-    while i < rows.len() {
-        let row = rows[i];
+    // an index, because no lemma of the toolchain speaks of a zip with what is written
+    for (i, row) in rows.iter().enumerate() {
         answers[i] = answer_for(trace, start, row[OFFSET], row[SIZE], file);
-        i += 1;
     }
 }
 
@@ -235,17 +217,17 @@ pub fn replay_fetches(
     file: u64,
     trace: &[u8],
     answers: &mut [u64],
-) -> Replay
-    ensures value { result ≡ reply_to (replayed rows.now start file trace.now (length answers.old)) }
+) -> Result<(), Refusal>
+    ensures value { as_reply result ≡ reply_to (replayed rows.now start file trace.now (length answers.old)) }
     ensures answers_after { answers.new ≡ filled same answers.old (replayed rows.now start file trace.now (length answers.old)) }
 {
     if answers.len() < rows.len() {
-        return Replay::Refused { why: 45, place: 0 };
+        return Err(Refusal {
+            why: Reason::NoAnswerRows,
+            place: 0,
+        });
     }
-    let checked = check_trace(trace);
-    if let Replay::Refused { why, place } = checked {
-        return Replay::Refused { why, place };
-    }
+    check_trace(trace)?;
     fill(rows, start, file, trace, answers);
-    Replay::Answered
+    Ok(())
 }

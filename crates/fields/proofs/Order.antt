@@ -10,6 +10,11 @@ use lib.Dec.{ltb, eqb}
 use lib.ListN.{length, drop, get_or, drop_of_length-le}
 use lib.Seq.{drop-cons}
 use native.Mathlib.Numerals.{add-one}
+use Rattle.std.proofs.Common.{Ordering}
+use Rattle.std.specs.Ordering.{nat_cmp, is_lt}
+use Rattle.std.specs.Cmp.Lexicographic.{slice_cmp}
+use Rattle.std.proofs.lemmas.Cmp.{same_from_slice_cmp}
+use Rattle.std.proofs.lemmas.Bool.Decides.{nat_tests}
 use Rattle.fields.specs.Order.{before}
 
 -- the comparison from the byte i on
@@ -38,3 +43,7 @@ module _ (a b : List ℕ) (i : ℕ) where
 
   pub before-ends : i ≡ length a → ltb (length a) (length b) ≡ before_from a b i
   before-ends h = decided h (ltb (length a) (length b)) refl
+
+-- the order is that of slices of bytes
+pub before_std : (a b : List ℕ) (o : Ordering) → o ≡ slice_cmp nat_cmp a b → is_lt o ≡ before a b
+before_std = same_from_slice_cmp nat_cmp is_lt before refl (λ _ _. refl) (λ _ _. refl) (λ x y xs ys o h. grind (arith, nat_tests))

@@ -1,10 +1,8 @@
 -- The number that bytes stand for, in either byte order, and the field that holds one.
 use Rattle.std.specs.Prelude.{ℕ, ◌+◌, ◌*◌, List, [], ◌∷◌, reverse, Bool, true, false}
-use Rattle.reading.specs.Reading.{Reading, done, next, Answer, accepted, refused}
+use Rattle.reading.specs.Reading.{Reading, done, next}
 use Rattle.fields.specs.declared.Width.{Width}
 use Rattle.fields.specs.declared.Width.TheVariants.{One, Two, Four, Eight}
-use Rattle.fields.specs.declared.Number.{Number}
-use Rattle.fields.specs.declared.Number.TheVariants.{Value, Refused}
 
 -- a width in bytes
 abbrev pub width_of : Width → ℕ
@@ -35,8 +33,3 @@ halves false unit first second = first + unit * second
 -- a number of w bytes
 unfoldable pub number : ℕ → Bool → Reading ℕ
 number w big = next w (λ bs. done (value big bs))
-
--- what the code's answer says
-abbrev pub as_number : Number → Answer ℕ
-as_number (Value v q) = accepted v q
-as_number (Refused n p) = refused n p

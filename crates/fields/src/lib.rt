@@ -8,11 +8,14 @@
 ghost use Rattle.std.specs.Prelude.{◌+◌, ◌/◌, ◌<◌, ◌^◌, ◌≤◌, drop, length, replicate, take, false, true, [], ◌∷◌, ◌≡◌};
 ghost use Rattle.fields.specs.Bytes.{Wrote, bytes_of};
 ghost use Rattle.fields.specs.Order.{before};
-ghost use Rattle.fields.specs.Value.{as_number, halves, le_value, number, value, width_of};
+ghost use Rattle.fields.specs.Value.{halves, le_value, number, value, width_of};
 ghost use Rattle.reading.specs.Reading.{run};
+ghost use Rattle.reading.specs.Replies.{as_answer};
+
+use reading::{Read, Reason, Refusal};
 
 // The greatest number of 64 bits.
-pub const GREATEST: u64 = 18446744073709551615;
+pub const GREATEST: u64 = u64::MAX;
 
 // The widths that a number has.
 #[derive(Clone, Copy)]
@@ -21,13 +24,6 @@ pub enum Width {
     Two,
     Four,
     Eight,
-}
-
-// A number that was read, and the place after it; or a refusal's number and place.
-#[derive(Clone, Copy)]
-pub enum Number {
-    Value { value: u64, next: usize },
-    Refused { why: u64, place: usize },
 }
 
 // A width in bytes.
@@ -63,6 +59,7 @@ fn four(a: u8, b: u8, c: u8, d: u8) -> u32
 }
 
 // A number of four bytes, turned round: sums that the compiler knows as a swap.
+#[tactic(auto, unfolding(crate::specs::Bytes::little, crate::specs::Bytes::bytes_of))]
 fn turned(v: u32) -> u32
     ensures { result ≡ value true (bytes_of false 4 v) }
 {
@@ -129,20 +126,18 @@ pub fn value_in(s: &[u8], at: usize, width: Width, big: bool) -> u64
 }
 
 // A number at a place, where it is wholly there.
-pub fn number_at(s: &[u8], at: usize, width: Width, big: bool) -> Number
-    ensures { as_number result ≡ run (number (width_of width) big) s.now at }
+#[tactic(auto, unfolding(reading::specs::Reading::run, crate::specs::Value::number))]
+pub fn number_at(s: &[u8], at: usize, width: Width, big: bool) -> Read<u64>
+    ensures { as_answer result ≡ run (number (width_of width) big) s.now at }
 {
     let w = bytes_in(width);
-    if s.len() < w {
-        return Number::Refused { why: 1, place: at };
+    if s.len() < w || s.len() - w < at {
+        return Err(Refusal {
+            why: Reason::CutOff,
+            place: at,
+        });
     }
-    if s.len() - w < at {
-        return Number::Refused { why: 1, place: at };
-    }
-    Number::Value {
-        value: value_in(s, at, width, big),
-        next: at + w,
-    }
+    Ok((value_in(s, at, width, big), at + w))
 }
 
 // The w lowest bytes of v, at the front of out.
@@ -152,12 +147,10 @@ fn put_bytes(out: &mut [u8], v: u64, w: usize, big: bool) -> usize
     ensures wrote { Wrote (bytes_of big w v) out.old out.new result }
 {
     let mut rest = v;
-    let mut left = w;
-    while 0 < left {
-        left -= 1;
-        let to = if big { left } else { w - 1 - left };
+    for i in (0..w).rev() {
+        let to = if big { i } else { w - 1 - i };
         out[to] = (rest % 256) as u8;
-        rest = rest / 256;
+        rest /= 256;
     }
     w
 }
@@ -177,10 +170,9 @@ pub fn copy_bytes(out: &mut [u8], src: &[u8]) -> usize
     ensures value { result ≡ length src.now }
     ensures wrote { Wrote src.now out.old out.new result }
 {
-    let mut i: usize = 0;
-    while i < src.len() {
-        out[i] = src[i];
-        i += 1;
+    // Not `copy_from_slice`: it would make the archive need `memmove` besides `memcpy` and `memset`.
+    for (i, &b) in src.iter().enumerate() {
+        out[i] = b;
     }
     src.len()
 }
@@ -191,30 +183,15 @@ pub fn put_zeros(out: &mut [u8], n: usize) -> usize
     ensures value { result ≡ n }
     ensures wrote { Wrote (replicate n 0) out.old out.new result }
 {
-    let mut i: usize = 0;
-    while i < n {
-        out[i] = 0;
-        i += 1;
-    }
+    out[..n].fill(0);
     n
 }
 
 // Whether one text comes before another, byte by byte; the front of a text comes before it.
+#[tactic(auto, using(crate::proofs::Order::before_std))]
 pub fn comes_before(a: &[u8], b: &[u8]) -> bool
     ensures { result ≡ before a.now b.now }
 {
-    let mut i: usize = 0;
-    while i < a.len() {
-        if b.len() <= i {
-            return false;
-        }
-        if a[i] < b[i] {
-            return true;
-        }
-        if b[i] < a[i] {
-            return false;
-        }
-        i += 1;
-    }
-    a.len() < b.len()
+    // `cmp` passes equal bytes in groups; `<` goes byte by byte, and is slower.
+    a.cmp(b).is_lt()
 }

@@ -10,7 +10,6 @@
 ghost use Rattle.std.specs.Prelude.{length, ◌≡◌, ◌≤◌, IfSome};
 
 use rows::{ENTRY_WORDS, TENSOR_WORDS};
-use text_in::TextNumber;
 
 // Zeros for a trace. The `ensures` gives only their count, which lending them as a slice needs.
 fn trace_buffer() -> [u8; 4194304]
@@ -94,7 +93,7 @@ fn main(rt: HostRuntime) {
     let mut text = [0u8; 4096];
     let n = bytes_in::argument(&rt, 3, &mut text).unwrap_or(0);
     match text_in::number_in(&text[..n]) {
-        TextNumber::Number { value } => print_with_file(&rt, value),
-        TextNumber::Unclear => complain(&rt, b"LENGTH is a number of bytes"),
+        Some(length) => print_with_file(&rt, length),
+        None => complain(&rt, b"LENGTH is a number of bytes"),
     }
 }

@@ -1,6 +1,6 @@
 -- Where the data starts: refusal 18 is never the answer to a slice, since the start is at most the
 -- alignment or twice the header's end. Assumes nothing.
-use Rattle.std.specs.Prelude.{if◌then◌else◌}
+use Rattle.std.specs.Prelude.{if◌then◌else◌, Option, Some, None}
 use Prim.Native.Nat.{ℕ, ◌+◌, ◌-◌, ◌%◌, ◌^◌, ◌≤◌, ◌<◌, max}
 use mathlib.Core.Path.{◌≡◌, refl, sym, ◌∙◌}
 use mathlib.Core.List.{List, [], ◌∷◌}
@@ -34,8 +34,6 @@ use Rattle.values.specs.declared.Entry.{Entry}
 use Rattle.values.specs.declared.Value.{Value}
 use Rattle.values.specs.declared.Value.TheVariants.{Single, Text, Array}
 use Rattle.scalars.proofs.Integers.{Small, natural_small}
-use Rattle.scalars.specs.declared.Natural.{Natural}
-use Rattle.scalars.specs.declared.Natural.TheVariants.{Number, None as NoNumber}
 
 -- an alignment is above 0 and fits 64 bits
 pub record Alignment (a : ℕ) : Type 0 where
@@ -52,9 +50,9 @@ usable_cases n h false true e =
     record { above = omega arith; fits = h }
 usable_cases n h false false e = record { above = omega arith; fits = omega arith }
 
-pub usable-alignment : (n : Natural) → Small n → Alignment (usable n)
-usable-alignment (Number n) h = usable_cases n h (eqb n 0) (eqb (n % 8) 0) refl
-usable-alignment NoNumber h = thirty_two
+pub usable-alignment : (n : Option ℕ) → Small n → Alignment (usable n)
+usable-alignment (Some n) h = usable_cases n h (eqb n 0) (eqb (n % 8) 0) refl
+usable-alignment None h = thirty_two
 
 -- however many of an array's items are kept
 pub kept-alignment : (tokens : Bool) (cap : ℕ) (v : Value) → alignment_of (keeping tokens cap v) ≡ alignment_of v

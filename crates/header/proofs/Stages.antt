@@ -1,6 +1,6 @@
 -- The whole run after each of its stages: the start, the entries, the tensors, and the last tests.
 -- Assumes nothing.
-use Rattle.std.specs.Prelude.{if◌then◌else◌}
+use Rattle.std.specs.Prelude.{if◌then◌else◌, Result, Ok, Err}
 use Prim.Native.Nat.{ℕ, ◌<◌}
 use mathlib.Core.Path.{◌≡◌, refl, sym, ap, subst, ◌∙◌}
 use mathlib.Core.List.{List}
@@ -29,8 +29,7 @@ use Rattle.reading.specs.declared.Limits.{Limits}
 use Rattle.values.specs.declared.Dialect.{Dialect}
 use Rattle.values.specs.declared.Entry.{Entry}
 use Rattle.tensors.specs.declared.Tensor.{Tensor}
-use Rattle.header.specs.declared.HeaderRead.{HeaderRead}
-use Rattle.header.specs.declared.HeaderRead.TheVariants.{Found as FoundHeader, Refused as NoHeader}
+use Rattle.reading.specs.declared.Refusal.{Refusal}
 use Rattle.start.proofs.RowsForCounts.{Room, sure_start}
 use Rattle.header.proofs.DataStart.{entries-alignment}
 use Rattle.header.proofs.Judged.{header_with, low-judged}
@@ -56,7 +55,7 @@ module _ (l : Limits) (rooms : Rooms) (cap : ℕ) (s : List ℕ) where
   Aligned c p a q = accepted a q ≡ seen (fold latest 32) (entries_from c p)
 
   -- what is told of the header, where the tensors stand from q on and the alignment is a
-  abbrev pub told : Start → ℕ → ℕ → HeaderRead
+  abbrev pub told : Start → ℕ → ℕ → Answer Header
   told c a q = header_after c a (seen (fold (noted a) 0) (tensors_from c q))
 
   -- tensors that no ceiling stopped
@@ -96,15 +95,15 @@ module _ (l : Limits) (rooms : Rooms) (cap : ℕ) (s : List ℕ) where
       ∙ ap (λ x. run (check (leb (padded (fold latest 32 es) e) greatest) 18 e >> (x >> done (header_with c es ts e))) s e) (as-noted (fold latest 32 es) ts)
 
   -- the two last tests, where a header is told and where none is
-  found_cases : (c : Start) (es : List Entry) (ts : List Tensor) (e m : ℕ) (b d : Bool) (h : Header)
-      → FoundHeader h ≡ (if b then if d then FoundHeader (header_of c (fold latest 32 es) e) else NoHeader 16 m else NoHeader 18 e)
+  found_cases : (c : Start) (es : List Entry) (ts : List Tensor) (e m : ℕ) (b d : Bool) (h : Header) {o : ℕ}
+      → accepted h o ≡ (if b then if d then accepted (header_of c (fold latest 32 es) e) e else refused 16 m else refused 18 e)
       → run (check b 18 e >> (check d 16 m >> done (header_with c es ts e))) s e ≡ accepted (record { head = h; entries = es; tensors = ts }) h.end
   unfolding run ◌>>=◌
   found_cases c es ts e m true true h f = let i : h ≡ header_of c (fold latest 32 es) e = cc in rw i refl
   found_cases c es ts e m true false h f = let z : ◌≡◌ {A = ℕ} 0 1 = cc in absurd (omega arith)
   found_cases c es ts e m false d h f = let z : ◌≡◌ {A = ℕ} 0 1 = cc in absurd (omega arith)
 
-  none_cases : (w : FullHeader) (e m : ℕ) (b d : Bool) {n u : ℕ} → NoHeader n u ≡ (if b then if d then FoundHeader w.head else NoHeader 16 m else NoHeader 18 e)
+  none_cases : (w : FullHeader) (e m : ℕ) (b d : Bool) {n u : ℕ} → refused n u ≡ (if b then if d then accepted w.head e else refused 16 m else refused 18 e)
       → run (check b 18 e >> (check d 16 m >> done w)) s e ≡ refused n u
   unfolding run ◌>>=◌
   none_cases w e m true true f = let z : ◌≡◌ {A = ℕ} 0 1 = cc in absurd (omega arith)
@@ -149,7 +148,7 @@ module _ (l : Limits) (rooms : Rooms) (cap : ℕ) (s : List ℕ) where
     unfolding header and_then
     at-tensors g = rw (run-under, ← began, run-under, under-entries c.dialect c.entries p, ← (seen-accepted _ _ _ _ aligned).1, run-under, under-each l (tensor c.dialect), ← g) refl
 
-    none-by : (r : Answer ℕ) → r ≡ seen (fold (noted a) 0) (tensors_from c q) → {n u : ℕ} → NoHeader n u ≡ header_after c a r → outcome ≡ refused n u
+    none-by : (r : Answer ℕ) → r ≡ seen (fold (noted a) 0) (tensors_from c q) → {n u : ℕ} → refused n u ≡ header_after c a r → outcome ≡ refused n u
     none-by (accepted m e) f {n} {u} t =
         let g = seen-accepted _ _ _ _ f in
         to_end began (seen-accepted _ _ _ _ aligned).1 g.1 ∙ by-noted c es g.0 e ∙ none_cases (header_with c es g.0 e) e (place_of g.0) (start_within e) (eqb (place_of g.0) 0) (t ∙ told_of g.0 e m g.2)
@@ -158,7 +157,7 @@ module _ (l : Limits) (rooms : Rooms) (cap : ℕ) (s : List ℕ) where
         let j : o ≡ u = cc in
         rw (← i, ← j) (at-tensors (seen-refused _ _ _ _ f))
 
-    found-by : (r : Answer ℕ) → r ≡ seen (fold (noted a) 0) (tensors_from c q) → {h : Header} → FoundHeader h ≡ header_after c a r → Passed c p q h
+    found-by : (r : Answer ℕ) → r ≡ seen (fold (noted a) 0) (tensors_from c q) → {h : Header} {o : ℕ} → accepted h o ≡ header_after c a r → Passed c p q h
     found-by (accepted m e) f {h} t =
         let g = seen-accepted _ _ _ _ f in
         record {
@@ -175,14 +174,14 @@ module _ (l : Limits) (rooms : Rooms) (cap : ℕ) (s : List ℕ) where
     found-by (refused w o) f t = let z : ◌≡◌ {A = ℕ} 0 1 = cc in absurd (omega arith)
 
     -- where no header is told the whole run is refused, and where one is told all is known
-    pub no_header : {n u : ℕ} → NoHeader n u ≡ told c a q → outcome ≡ refused n u
+    pub no_header : {n u : ℕ} → refused n u ≡ told c a q → outcome ≡ refused n u
     no_header t = none-by _ refl t
 
-    pub reached : {h : Header} → FoundHeader h ≡ told c a q → Passed c p q h
+    pub reached : {h : Header} {o : ℕ} → accepted h o ≡ told c a q → Passed c p q h
     reached t = found-by _ refl t
 
     -- what is told is what the whole run says of the header
-    pub all_told : (r : HeaderRead) → r ≡ told c a q → as_header r ≡ seen (λ w. w.head) outcome
+    pub all_told : (r : Result Header Refusal) → as_header r ≡ told c a q → as_header r ≡ seen (λ w. w.head) outcome
     unfolding seen
-    all_told (FoundHeader h) t = rw (reached t).all refl
-    all_told (NoHeader n u) t = rw (no_header t) refl
+    all_told (Ok h) t = rw (reached t).all refl
+    all_told (Err e) t = rw (no_header t) refl

@@ -1,5 +1,6 @@
 -- What more bytes may change: nothing, once the answer of a call is any other than refusal 1.
 -- Assumes nothing.
+use Rattle.std.specs.Prelude.{Result}
 use Prim.Native.Nat.{ℕ}
 use mathlib.Core.Path.{◌≡◌, sym, ap, subst, ◌∙◌}
 use mathlib.Core.List.{List, ◌++◌}
@@ -13,7 +14,8 @@ use Rattle.reading.proofs.RunLaws.{stable, final-run, other_than-1}
 use Rattle.start.specs.declared.Rooms.{Rooms}
 use Rattle.header.specs.Answers.{Outcome, CameTo, as_header, reader_run, outcome_of, reader_outcome}
 use Rattle.header.specs.Format.{FullHeader, header}
-use Rattle.header.specs.declared.HeaderRead.{HeaderRead}
+use Rattle.reading.specs.declared.Refusal.{Refusal}
+use Rattle.header.specs.declared.Header.{Header}
 
 -- Two calls of `measure`, with equal ceilings, rooms and cap: one over the bytes s, and one over
 -- longer bytes that begin with them.
@@ -45,7 +47,7 @@ module _ (limits : Limits) (cap : ℕ) (es ts : List (List ℕ)) (s t : List ℕ
 
   -- in terms of the calls: the first gave r and left the tables es₁ and ts₁, and that is what the
   -- second came to
-  pub calls_stay : (r r' : HeaderRead) {es₁ ts₁ es₂ ts₂ : List (List ℕ)} → CameTo (reader_outcome limits cap es ts s) (as_header r) es₁ ts₁
+  pub calls_stay : (r r' : Result Header Refusal) {es₁ ts₁ es₂ ts₂ : List (List ℕ)} → CameTo (reader_outcome limits cap es ts s) (as_header r) es₁ ts₁
       → CameTo (reader_outcome limits cap es ts (s ++ t)) (as_header r') es₂ ts₂ → T (final (as_header r))
       → CameTo (record { answer = as_header r; entries = es₁; tensors = ts₁ }) (as_header r') es₂ ts₂
   calls_stay r r' first second sure =

@@ -1,6 +1,6 @@
 -- What the code's answers say, and what a whole call of a reader comes to: an answer and two
 -- tables, from one run.
-use Rattle.std.specs.Prelude.{ℕ, ◌≡◌, List, length}
+use Rattle.std.specs.Prelude.{ℕ, ◌≡◌, List, length, Result, Ok, Err}
 use Rattle.reading.specs.Reading.{Answer, accepted, refused, run, seen}
 use Rattle.reading.specs.Each.{filled}
 use Rattle.reading.specs.Ceilings.{under}
@@ -8,14 +8,14 @@ use Rattle.reading.specs.declared.Limits.{Limits}
 use Rattle.values.specs.Rows.{entry_row}
 use Rattle.tensors.specs.Rows.{tensor_row}
 use Rattle.header.specs.declared.Header.{Header}
-use Rattle.header.specs.declared.HeaderRead.{HeaderRead}
-use Rattle.header.specs.declared.HeaderRead.TheVariants.{Found as FoundHeader, Refused as NoHeader}
+use Rattle.reading.specs.declared.Refusal.{Refusal}
+use Rattle.reading.specs.Replies.{reason_number}
 use Rattle.header.specs.Format.{FullHeader, header}
 
 -- a header, with the place after it
-abbrev pub as_header : HeaderRead → Answer Header
-as_header (FoundHeader h) = accepted h h.end
-as_header (NoHeader n p) = refused n p
+abbrev pub as_header : Result Header Refusal → Answer Header
+as_header (Ok h) = accepted h h.end
+as_header (Err e) = refused (reason_number e.why) e.place
 
 -- the run that a call comes from: the reader's ceilings and cap, the tables as they were, and the
 -- bytes

@@ -4,7 +4,7 @@
 -- It goes in the order of the file. The refusals beside those of its parts, last of all:
 --   18  a data offset above 2 ^ 64 - 1, at the header's end
 --   16  a tensor's offset that is no multiple of the alignment, at that offset; the first one decides
-use Rattle.std.specs.Prelude.{ℕ, ◌%◌, Bool, false, List, leb, eqb, if◌then◌else◌}
+use Rattle.std.specs.Prelude.{ℕ, ◌%◌, Bool, false, List, leb, eqb, if◌then◌else◌, Option, Some, None}
 use Rattle.reading.specs.Reading.{Reading, done, ◌>>=◌, ◌>>◌, here, check}
 use Rattle.reading.specs.Each.{each, times, check_each, fold}
 use Rattle.kinds.specs.Shape.{greatest}
@@ -20,17 +20,15 @@ use Rattle.start.specs.declared.Start.{Start}
 use Rattle.header.specs.declared.Header.{Header}
 use Rattle.start.specs.Format.{start}
 use Rattle.scalars.specs.Scalars.{natural_of}
-use Rattle.scalars.specs.declared.Natural.{Natural}
-use Rattle.scalars.specs.declared.Natural.TheVariants.{Number, None as NoNumber}
 
 -- whether a number is an alignment: above 0, and a multiple of 8
 abbrev pub is_alignment_lem : ℕ → Bool
 is_alignment_lem n = if eqb n 0 then false else eqb (n % 8) 0
 
 -- the alignment that a number means: itself where it is one; any other number, or none, means 32
-abbrev pub usable : Natural → ℕ
-usable (Number n) = if is_alignment_lem n then n else 32
-usable NoNumber = 32
+abbrev pub usable : Option ℕ → ℕ
+usable (Some n) = if is_alignment_lem n then n else 32
+usable None = 32
 
 -- the alignment that a value gives
 abbrev pub alignment_of : Value → ℕ

@@ -7,26 +7,25 @@
 #![tactic(auto)]
 
 ghost use Rattle.std.specs.Prelude.{◌+◌, ◌<◌, ◌≤◌, drop, length, take, true, ◌++◌, ◌≡◌};
-ghost use Rattle.fields.specs.Value.{as_number};
+ghost use Rattle.header.specs.Contents.{dialect_in};
 ghost use Rattle.header.specs.Answers.{as_header, reader_outcome, CameTo};
 ghost use Rattle.header.specs.Steps.{Keeps, Tells, noted, as_noted, header_if_it_fits, header_after};
 ghost use Rattle.reading.specs.Ceilings.{under};
 ghost use Rattle.reading.specs.Each.{each, filled, fold, times};
 ghost use Rattle.reading.specs.Reading.{is_accepted, run, seen};
+ghost use Rattle.reading.specs.Replies.{as_answer};
 ghost use Rattle.tensors.specs.Format.{offset_place, tensor, total_of};
 ghost use Rattle.tensors.specs.Rows.{tensor_row};
 ghost use Rattle.values.specs.Format.{entry};
 ghost use Rattle.values.specs.Rows.{entry_row};
 ghost use Rattle.header.specs.Format as format;
 
-use fields::{GREATEST, Number};
-use kinds::Bounded;
-use reading::Limits;
+use fields::GREATEST;
+use reading::{Limits, Read, Reason, Refusal};
 use rows::{ENTRY_WORDS, EntryRow, TensorRow};
-use scalars::Natural;
-use start::{Rooms, Start, StartRead};
-use tensors::{Tensor, TensorRead};
-use values::{Dialect, Entry, EntryRead, Passed, Value};
+use start::{Rooms, Start};
+use tensors::Tensor;
+use values::{Dialect, Entry, Value};
 
 // How many entry rows are kept while a header is tested. Nearly all headers have no more entries.
 const KEPT: usize = 64;
@@ -45,29 +44,33 @@ pub struct Header {
     pub start: u64,
 }
 
-#[derive(Clone, Copy)]
-pub enum HeaderRead {
-    Found { header: Header },
-    Refused { why: u64, place: usize },
+impl Header {
+    // How its numbers are written.
+    pub fn dialect(self) -> Dialect
+        ensures { result ≡ dialect_in self }
+    {
+        Dialect {
+            version: self.version,
+            big: self.big,
+            turned: self.turned,
+        }
+    }
 }
 
 // Whether a number is an alignment: above 0, and a multiple of 8.
 pub fn is_alignment(n: u64) -> bool
     ensures { result ≡ format.is_alignment_lem n }
 {
-    if n == 0 {
-        return false;
-    }
-    n % 8 == 0
+    n != 0 && n % 8 == 0
 }
 
 // The alignment that a number means: itself where it is one, and else 32.
-fn usable(n: Natural) -> u64
+fn usable(n: Option<u64>) -> u64
     ensures { result ≡ format.usable n }
 {
     match n {
-        Natural::None => 32,
-        Natural::Number { value } => { if is_alignment(value) { value } else { 32 } }
+        Some(n) if is_alignment(n) => n,
+        _ => 32,
     }
 }
 
@@ -77,8 +80,7 @@ pub fn alignment_of(value: Value) -> u64
 {
     match value {
         Value::Single(x) => usable(scalars::natural_of(x)),
-        Value::Text(_) => 32,
-        Value::Array(_) => 32,
+        Value::Text(_) | Value::Array(_) => 32,
     }
 }
 
@@ -87,40 +89,29 @@ fn latest(alignment: u64, entry: Entry) -> u64
     ensures { result ≡ format.latest alignment entry }
 {
     if entry.is_alignment {
-        let v = entry.value;
-        alignment_of(v)
+        alignment_of(entry.value)
     } else {
         alignment
     }
 }
 
 // Passes n entries: the alignment that they give, and the place after them.
-pub fn pass_entries(s: &[u8], at: usize, n: u64, dialect: Dialect, cap: u64) -> Number
-    ensures { as_number result ≡ seen (fold format.latest 32) (run (times n (entry dialect cap)) s.now at) }
+pub fn pass_entries(s: &[u8], at: usize, n: u64, dialect: Dialect, cap: u64) -> Read<u64>
+    ensures { as_answer result ≡ seen (fold format.latest 32) (run (times n (entry dialect cap)) s.now at) }
 {
     let mut from = at;
-    let mut alignment: u64 = 32;
-    let mut i: u64 = 0;
-    while i < n {
-        match values::read_entry(s, from, dialect, cap) {
-            EntryRead::Refused { why, place } => {
-                return Number::Refused { why, place };
-            }
-            EntryRead::Found { entry, next } => {
-                from = next;
-                alignment = latest(alignment, entry);
-            }
-        }
-        i += 1;
+    let mut alignment = 32;
+    for _ in 0..n {
+        let (entry, next) = values::read_entry(s, from, dialect, cap)?;
+        alignment = latest(alignment, entry);
+        from = next;
     }
-    Number::Value {
-        value: alignment,
-        next: from,
-    }
+    Ok((alignment, from))
 }
 
 // Bits that tell multiples of an alignment: a number without any of them is one. Nearly every
 // alignment is a power of two, and the bits are those below it; of any other they are all 64.
+#[tactic(auto, using(crate::proofs::TellingBits::tells_below))]
 fn telling_bits(alignment: u64) -> u64
     requires { 0 < alignment }
     ensures { Tells result alignment }
@@ -142,14 +133,39 @@ fn note_offset(tensor: Tensor, next: usize, alignment: u64, bits: u64, misaligne
     ensures { misaligned.new ≡ noted alignment misaligned.old tensor }
 {
     let offset = tensor.offset;
-    if offset & bits == 0 {
-        return;
-    }
-    if offset % alignment == 0 {
-        return;
-    }
-    if *misaligned == 0 {
+    let aligned = offset & bits == 0 || offset % alignment == 0;
+    if !aligned && *misaligned == 0 {
         *misaligned = next - 8;
+    }
+}
+
+// A tensor. The order is a constant in each call, so that the compiler makes a body for each.
+#[inline(always)]
+fn next_tensor(s: &[u8], at: usize, dialect: Dialect, total: u64, limits: Limits) -> Read<Tensor>
+    ensures { as_answer result ≡ run (under limits (tensor dialect total)) s.now at }
+{
+    if dialect.big {
+        tensors::read_tensor(
+            s,
+            at,
+            Dialect {
+                big: true,
+                ..dialect
+            },
+            total,
+            limits,
+        )
+    } else {
+        tensors::read_tensor(
+            s,
+            at,
+            Dialect {
+                big: false,
+                ..dialect
+            },
+            total,
+            limits,
+        )
     }
 }
 
@@ -165,32 +181,25 @@ fn pass_tensors(
     limits: Limits,
     alignment: u64,
     misaligned: &mut usize,
-) -> Passed
+) -> Result<usize, Refusal>
     requires { 0 < alignment }
     ensures { as_noted result misaligned.new ≡ seen (fold (noted alignment) misaligned.old) (run (each (λ z. under limits (tensor dialect z)) total_of n 0) s.now at) }
 {
     let bits = telling_bits(alignment);
     let mut from = at;
-    let mut total: u64 = 0;
-    let mut i: u64 = 0;
-    while i < n {
-        match tensors::read_tensor(s, from, dialect, total, limits) {
-            TensorRead::Refused { why, place } => {
-                return Passed::Refused { why, place };
-            }
-            TensorRead::Found { tensor, next } => {
-                note_offset(tensor, next, alignment, bits, misaligned);
-                from = next;
-                total += tensor.parameters;
-            }
-        }
-        i += 1;
+    let mut total = 0;
+    for _ in 0..n {
+        let (tensor, next) = next_tensor(s, from, dialect, total, limits)?;
+        note_offset(tensor, next, alignment, bits, misaligned);
+        total += tensor.parameters;
+        from = next;
     }
-    Passed::To { next: from }
+    Ok(from)
 }
 
 // Reads n entries into as many rows. Where one is refused the rows before it are written: the table
-// is the caller's own, or all are known to be there.
+// is the caller's own, or all are known to be there. `pass_entries` is this without rows: one
+// function for both would ask at each entry whether it has one.
 fn list_entries(
     s: &[u8],
     at: usize,
@@ -198,31 +207,20 @@ fn list_entries(
     dialect: Dialect,
     cap: u64,
     rows: &mut [EntryRow],
-) -> Number
+) -> Read<u64>
     requires { n ≤ length rows.old }
-    ensures result_value { as_number result ≡ seen (fold format.latest 32) (run (times n (entry dialect cap)) s.now at) }
+    ensures result_value { as_answer result ≡ seen (fold format.latest 32) (run (times n (entry dialect cap)) s.now at) }
     ensures rows_after { is_accepted (run (times n (entry dialect cap)) s.now at) ≡ true → rows.new ≡ filled entry_row rows.old (run (times n (entry dialect cap)) s.now at) }
 {
     let mut from = at;
-    let mut aligned: u64 = 32;
-    let mut i: usize = 0;
-    while i < n {
-        match values::read_entry(s, from, dialect, cap) {
-            EntryRead::Refused { why, place } => {
-                return Number::Refused { why, place };
-            }
-            EntryRead::Found { entry, next } => {
-                rows[i] = values::entry_row(entry);
-                from = next;
-                aligned = latest(aligned, entry);
-            }
-        }
-        i += 1;
+    let mut aligned = 32;
+    for row in rows[..n].iter_mut() {
+        let (entry, next) = values::read_entry(s, from, dialect, cap)?;
+        *row = values::entry_row(entry);
+        aligned = latest(aligned, entry);
+        from = next;
     }
-    Number::Value {
-        value: aligned,
-        next: from,
-    }
+    Ok((aligned, from))
 }
 
 // Passes n entries as `pass_entries` does, and keeps their rows where there is room for all.
@@ -233,8 +231,8 @@ fn test_entries(
     dialect: Dialect,
     cap: u64,
     kept: &mut [EntryRow],
-) -> Number
-    ensures result_value { as_number result ≡ seen (fold format.latest 32) (run (times n (entry dialect cap)) s.now at) }
+) -> Read<u64>
+    ensures result_value { as_answer result ≡ seen (fold format.latest 32) (run (times n (entry dialect cap)) s.now at) }
     ensures keeps { Keeps n kept.new (run (times n (entry dialect cap)) s.now at) }
 {
     if n <= (kept.len() as u64) {
@@ -249,11 +247,7 @@ fn copy_rows(n: usize, from: &[EntryRow], to: &mut [EntryRow])
     requires { (n ≤ length from.now) × (n ≤ length to.old) }
     ensures { to.new ≡ take n from.now ++ drop n to.old }
 {
-    let mut i: usize = 0;
-    while i < n {
-        to[i] = from[i];
-        i += 1;
-    }
+    to[..n].copy_from_slice(&from[..n]);
 }
 
 // Writes the rows of n entries that are all there: those that were kept, or by reading once more.
@@ -274,7 +268,8 @@ fn fill_entries(
     if n <= kept.len() {
         copy_rows(n, kept, rows);
     } else {
-        list_entries(s, at, n, dialect, cap, rows);
+        // All are there, so that none is refused.
+        let _ = list_entries(s, at, n, dialect, cap, rows);
     }
 }
 
@@ -286,8 +281,7 @@ fn fill_tensors(s: &[u8], at: usize, n: usize, dialect: Dialect, rows: &mut [Ten
 {
     let version = dialect.version;
     let mut from = at;
-    let mut i: usize = 0;
-    while i < n {
+    for row in rows[..n].iter_mut() {
         // The order is a constant in each call, so that the compiler makes a body for each.
         let name = if dialect.big {
             tensors::known_name(s, from, version, true)
@@ -300,78 +294,67 @@ fn fill_tensors(s: &[u8], at: usize, n: usize, dialect: Dialect, rows: &mut [Ten
         } else {
             tensors::known_after_name(s, p, false)
         };
-        rows[i] = tensors::known_row(name, found);
+        *row = tensors::known_row(name, found);
         from = found.next;
-        i += 1;
     }
 }
 
 // The answer of a header that ends at end: its data starts at the next multiple of its alignment.
 // The last tests are of that start and, where one is misaligned, of the tensors' offsets.
-fn header_if_it_fits(start: Start, alignment: u64, end: usize, misaligned: usize) -> HeaderRead
-    ensures { result ≡ header_if_it_fits start alignment end misaligned }
+fn header_if_it_fits(
+    start: Start,
+    alignment: u64,
+    end: usize,
+    misaligned: usize,
+) -> Result<Header, Refusal>
+    ensures { as_header result ≡ header_if_it_fits start alignment end misaligned }
 {
-    match layout::pad(alignment, end as u64) {
-        Bounded::Over => HeaderRead::Refused {
-            why: 18,
-            place: end,
-        },
-        Bounded::Fits { value } => {
-            if misaligned != 0 {
-                return HeaderRead::Refused {
-                    why: 16,
-                    place: misaligned,
-                };
-            }
-            let dialect = start.dialect;
-            HeaderRead::Found {
-                header: Header {
-                    version: dialect.version,
-                    big: dialect.big,
-                    turned: dialect.turned,
-                    entries: start.entries,
-                    tensors: start.tensors,
-                    alignment,
-                    end,
-                    start: value,
-                },
-            }
-        }
+    let data_start = layout::pad(alignment, end as u64).ok_or(Refusal {
+        why: Reason::DataStartOverflow,
+        place: end,
+    })?;
+    if misaligned != 0 {
+        return Err(Refusal {
+            why: Reason::Misaligned,
+            place: misaligned,
+        });
     }
+    let dialect = start.dialect;
+    Ok(Header {
+        version: dialect.version,
+        big: dialect.big,
+        turned: dialect.turned,
+        entries: start.entries,
+        tensors: start.tensors,
+        alignment,
+        end,
+        start: data_start,
+    })
 }
 
 // The answer of a header whose tensors were passed, or were refused.
-fn header_after(passed: Passed, start: Start, alignment: u64, misaligned: usize) -> HeaderRead
-    ensures { result ≡ header_after start alignment (as_noted passed misaligned) }
+fn header_after(
+    passed: Result<usize, Refusal>,
+    start: Start,
+    alignment: u64,
+    misaligned: usize,
+) -> Result<Header, Refusal>
+    ensures { as_header result ≡ header_after start alignment (as_noted passed misaligned) }
 {
-    match passed {
-        Passed::Refused { why, place } => HeaderRead::Refused { why, place },
-        Passed::To { next: end } => header_if_it_fits(start, alignment, end, misaligned),
-    }
+    let end = passed?;
+    header_if_it_fits(start, alignment, end, misaligned)
 }
 
 // Tests a whole header and answers what it says of itself, with no row.
-pub fn measure(s: &[u8], limits: Limits, cap: u64, rooms: Rooms) -> HeaderRead
+pub fn measure(s: &[u8], limits: Limits, cap: u64, rooms: Rooms) -> Result<Header, Refusal>
     ensures { as_header result ≡ seen (λ w. w.head) (run (under limits (format.header rooms cap)) s.now 0) }
 {
-    match start::read_start(s, limits, rooms) {
-        StartRead::Refused { why, place } => HeaderRead::Refused { why, place },
-        StartRead::Found { start, next: p } => {
-            let dialect = start.dialect;
-            match pass_entries(s, p, start.entries, dialect, cap) {
-                Number::Refused { why, place } => HeaderRead::Refused { why, place },
-                Number::Value {
-                    value: alignment,
-                    next: q,
-                } => {
-                    let mut noted: usize = 0;
-                    let n = start.tensors;
-                    let ended = pass_tensors(s, q, n, dialect, limits, alignment, &mut noted);
-                    header_after(ended, start, alignment, noted)
-                }
-            }
-        }
-    }
+    let (start, p) = start::read_start(s, limits, rooms)?;
+    let dialect = start.dialect;
+    let (alignment, q) = pass_entries(s, p, start.entries, dialect, cap)?;
+    let mut noted = 0;
+    let ended = pass_tensors(s, q, start.tensors, dialect, limits, alignment, &mut noted);
+    header_after(ended, start, alignment, noted)
 }
 
 // Writes the rows of a header that is all there: its entries stand from p on, its tensors from q
@@ -406,35 +389,20 @@ pub fn read(
     cap: u64,
     entries: &mut [EntryRow],
     tensors: &mut [TensorRow],
-) -> HeaderRead
+) -> Result<Header, Refusal>
     ensures { CameTo (reader_outcome limits cap entries.old tensors.old s.now) (as_header result) entries.new tensors.new }
 {
     let rooms = Rooms {
         entries: entries.len() as u64,
         tensors: tensors.len() as u64,
     };
-    match start::read_start(s, limits, rooms) {
-        StartRead::Refused { why, place } => HeaderRead::Refused { why, place },
-        StartRead::Found { start, next: p } => {
-            let mut kept = [[0u64; ENTRY_WORDS]; KEPT];
-            match test_entries(s, p, start.entries, start.dialect, cap, &mut kept) {
-                Number::Refused { why, place } => HeaderRead::Refused { why, place },
-                Number::Value {
-                    value: alignment,
-                    next: q,
-                } => {
-                    let mut noted: usize = 0;
-                    let n = start.tensors;
-                    let ended = pass_tensors(s, q, n, start.dialect, limits, alignment, &mut noted);
-                    match header_after(ended, start, alignment, noted) {
-                        HeaderRead::Refused { why, place } => HeaderRead::Refused { why, place },
-                        HeaderRead::Found { header } => {
-                            fill(s, p, q, start, cap, &kept, entries, tensors);
-                            HeaderRead::Found { header }
-                        }
-                    }
-                }
-            }
-        }
-    }
+    let (start, p) = start::read_start(s, limits, rooms)?;
+    let dialect = start.dialect;
+    let mut kept = [[0; ENTRY_WORDS]; KEPT];
+    let (alignment, q) = test_entries(s, p, start.entries, dialect, cap, &mut kept)?;
+    let mut noted = 0;
+    let ended = pass_tensors(s, q, start.tensors, dialect, limits, alignment, &mut noted);
+    let header = header_after(ended, start, alignment, noted)?;
+    fill(s, p, q, start, cap, &kept, entries, tensors);
+    Ok(header)
 }

@@ -1,6 +1,6 @@
 -- What the next key is: it comes after the last one, no key lies between, no later row has it; and
 -- where there is none, all keys came. Assumes nothing.
-use Rattle.std.specs.Prelude.{if◌then◌else◌}
+use Rattle.std.specs.Prelude.{if◌then◌else◌, Option, Some, None}
 use Prim.Native.Nat.{ℕ, zero, suc, ◌+◌, ◌<◌}
 use mathlib.Core.Path.{◌≡◌, refl, subst}
 use mathlib.Core.Bool.{Bool, true, false}
@@ -12,10 +12,6 @@ use borrow.Author.Tests.{ltb-true, ltb-false}
 use Rattle.fields.specs.Order.{before}
 use Rattle.fields.proofs.Before.{clash, not_itself, not-both, not_through}
 use Rattle.key_order.specs.Order.{key_at, to_come, better, improved, best_from, next_key}
-use Rattle.key_order.specs.declared.LastKey.{LastKey}
-use Rattle.key_order.specs.declared.LastKey.TheVariants.{After}
-use Rattle.key_order.specs.declared.NextKey.{NextKey}
-use Rattle.key_order.specs.declared.NextKey.TheVariants.{At, Done}
 use Rattle.key_order.proofs.SearchTurns.{best_turn, best_end}
 
 -- below the next number: the last one, or one before it
@@ -26,7 +22,7 @@ under-suc {A} {k} {i} h f g = by (ltb k i) refl
     by true e = f (ltb-true k i e)
     by false e = let l = ltb-false k i e in g (omega arith)
 
-module _ (s : List ℕ) (rows : List (List ℕ)) (last : LastKey) where
+module _ (s : List ℕ) (rows : List (List ℕ)) (last : Option ℕ) where
   -- the row j has the best key of the rows before n: it is still to come, none that is still to
   -- come is less, and none of the later ones is equal
   pub record Best (n j : ℕ) : Type 0 where
@@ -36,20 +32,20 @@ module _ (s : List ℕ) (rows : List (List ℕ)) (last : LastKey) where
     pub latest : (k : ℕ) → k < n → j < k → to_come s rows last (key_at s rows k) ≡ true → before (key_at s rows j) (key_at s rows k) ≡ true
 
   -- what is known of the best so far
-  abbrev pub Found : ℕ → NextKey → Type 0
-  Found n Done = (k : ℕ) → k < n → to_come s rows last (key_at s rows k) ≡ false
-  Found n (At j) = Best n j
+  abbrev pub Found : ℕ → Option ℕ → Type 0
+  Found n None = (k : ℕ) → k < n → to_come s rows last (key_at s rows k) ≡ false
+  Found n (Some j) = Best n j
 
-  passed_over : (i : ℕ) (z : NextKey) → to_come s rows last (key_at s rows i) ≡ false → Found i z → Found (suc i) z
-  passed_over i Done gone f = λ k h. under-suc h (f k) (λ e. rw e gone)
-  passed_over i (At j) gone f = record {
+  passed_over : (i : ℕ) (z : Option ℕ) → to_come s rows last (key_at s rows i) ≡ false → Found i z → Found (suc i) z
+  passed_over i None gone f = λ k h. under-suc h (f k) (λ e. rw e gone)
+  passed_over i (Some j) gone f = record {
     inside = let g = f.inside in omega arith;
     comes = f.comes;
     least = λ k h c. under-suc h (λ l. f.least k l c) (λ e. clash c (rw e gone));
     latest = λ k h l c. under-suc h (λ m. f.latest k m l c) (λ e. clash c (rw e gone));
   }
 
-  first_found : (i : ℕ) → to_come s rows last (key_at s rows i) ≡ true → Found i Done → Best (suc i) i
+  first_found : (i : ℕ) → to_come s rows last (key_at s rows i) ≡ true → Found i None → Best (suc i) i
   first_found i comes f = record {
     inside = omega arith;
     comes = comes;
@@ -73,22 +69,22 @@ module _ (s : List ℕ) (rows : List (List ℕ)) (last : LastKey) where
     latest = λ k h l c. absurd (omega arith);
   }
 
-  compared_with : (i : ℕ) (z : NextKey) → to_come s rows last (key_at s rows i) ≡ true → Found i z → Found (suc i) (better s rows z i (key_at s rows i))
-  compared_with i Done comes f = first_found i comes f
-  compared_with i (At j) comes f = by (before (key_at s rows j) (key_at s rows i)) refl
+  compared_with : (i : ℕ) (z : Option ℕ) → to_come s rows last (key_at s rows i) ≡ true → Found i z → Found (suc i) (better s rows z i (key_at s rows i))
+  compared_with i None comes f = first_found i comes f
+  compared_with i (Some j) comes f = by (before (key_at s rows j) (key_at s rows i)) refl
     where
-      by : (b : Bool) → before (key_at s rows j) (key_at s rows i) ≡ b → Found (suc i) (if b then At j else At i)
+      by : (b : Bool) → before (key_at s rows j) (key_at s rows i) ≡ b → Found (suc i) (if b then Some j else Some i)
       by true e = kept i j e f
       by false e = replaced i j comes e f
 
-  looked-at : (i : ℕ) (z : NextKey) → Found i z → Found (suc i) (improved s rows last z i (key_at s rows i))
+  looked-at : (i : ℕ) (z : Option ℕ) → Found i z → Found (suc i) (improved s rows last z i (key_at s rows i))
   looked-at i z f = by (to_come s rows last (key_at s rows i)) refl
     where
       by : (b : Bool) → to_come s rows last (key_at s rows i) ≡ b → Found (suc i) (if b then better s rows z i (key_at s rows i) else z)
       by true e = compared_with i z e f
       by false e = passed_over i z e f
 
-  best_found : (left i : ℕ) (z : NextKey) → i + left ≡ length rows → Found i z → Found (length rows) (best_from s rows last z i (drop i rows))
+  best_found : (left i : ℕ) (z : Option ℕ) → i + left ≡ length rows → Found i z → Found (length rows) (best_from s rows last z i (drop i rows))
   best_found zero i z e f =
       let end : best_from s rows last z i (drop i rows) ≡ z = best_end s rows last z i (omega arith) in
       let here : i ≡ length rows = omega arith in
@@ -100,14 +96,14 @@ module _ (s : List ℕ) (rows : List (List ℕ)) (last : LastKey) where
 
   -- the row that comes next is the best of all; and where there is none, no key is still to come
   pub next-found : Found (length rows) (next_key s rows last)
-  next-found = best_found (length rows) 0 Done (omega arith) (λ k h. absurd (omega arith))
+  next-found = best_found (length rows) 0 None (omega arith) (λ k h. absurd (omega arith))
 
-  module _ {i : ℕ} (e : next_key s rows last ≡ At i) where
+  module _ {i : ℕ} (e : next_key s rows last ≡ Some i) where
     pub next_best : Best (length rows) i
     next_best = subst (Found (length rows)) e next-found
 
     -- it is one of the rows, and its key comes after that of the row that was last
-    pub next-after : (j : ℕ) → last ≡ After j → before (key_at s rows j) (key_at s rows i) ≡ true
+    pub next-after : (j : ℕ) → last ≡ Some j → before (key_at s rows j) (key_at s rows i) ≡ true
     next-after j l = subst (λ z. to_come s rows z (key_at s rows i) ≡ true) l next_best.comes
 
     -- no later row has the same key
@@ -118,5 +114,5 @@ module _ (s : List ℕ) (rows : List (List ℕ)) (last : LastKey) where
         clash g (rw same (not_itself (key_at s rows i)))
 
   -- where there is no next row, no key is still to come
-  pub next-none : next_key s rows last ≡ Done → (k : ℕ) → k < length rows → to_come s rows last (key_at s rows k) ≡ false
+  pub next-none : next_key s rows last ≡ None → (k : ℕ) → k < length rows → to_come s rows last (key_at s rows k) ≡ false
   next-none e = subst (Found (length rows)) e next-found

@@ -1,6 +1,6 @@
 -- The rows in the order of their keys: the keys strictly ascend, every row's key is among them, and
 -- each stands for the last row that has it. Assumes nothing.
-use Rattle.std.specs.Prelude.{if◌then◌else◌}
+use Rattle.std.specs.Prelude.{if◌then◌else◌, Option, Some, None}
 use Prim.Native.Nat.{ℕ, zero, suc, ◌+◌, ◌≤◌, ◌<◌}
 use mathlib.Core.Path.{◌≡◌, refl}
 use mathlib.Core.Bool.{Bool, true, false}
@@ -13,10 +13,6 @@ use Rattle.reading.specs.Back.{All}
 use Rattle.fields.specs.Order.{before}
 use Rattle.fields.proofs.Before.{clash, not_itself, neither, through}
 use Rattle.key_order.specs.Order.{name_in, key_at, to_come, next_key, row_then, ordered_after, ordered}
-use Rattle.key_order.specs.declared.LastKey.{LastKey}
-use Rattle.key_order.specs.declared.LastKey.TheVariants.{Start, After}
-use Rattle.key_order.specs.declared.NextKey.{NextKey}
-use Rattle.key_order.specs.declared.NextKey.TheVariants.{At, Done}
 use Rattle.key_order.proofs.NextKeyFacts.{next_best, next-after, next-latest, next-none}
 
 -- how many rows pass a test
@@ -59,7 +55,7 @@ module _ (f g : List ℕ → Bool) (only : (row : List ℕ) → g row ≡ true �
 
 module _ (s : List ℕ) (rows : List (List ℕ)) where
   -- whether a row's key is still to come
-  abbrev waits : LastKey → List ℕ → Bool
+  abbrev waits : Option ℕ → List ℕ → Bool
   waits last row = to_come s rows last (name_in s row)
 
   -- the key stands in such a list
@@ -84,72 +80,72 @@ module _ (s : List ℕ) (rows : List (List ℕ)) where
     pub last : (k : ℕ) → k < length rows → place < k → key_at s rows k ≡ key_at s rows place → ⊥
 
   -- what is still to come after the next key was still to come before it
-  still : (last : LastKey) {i : ℕ} → next_key s rows last ≡ At i → (row : List ℕ) → waits (After i) row ≡ true → waits last row ≡ true
-  still Start e row h = refl
-  still (After j) {i} e row h = through (key_at s rows j) (key_at s rows i) (name_in s row) (next-after s rows (After j) e j refl) h
+  still : (last : Option ℕ) {i : ℕ} → next_key s rows last ≡ Some i → (row : List ℕ) → waits (Some i) row ≡ true → waits last row ≡ true
+  still None e row h = refl
+  still (Some j) {i} e row h = through (key_at s rows j) (key_at s rows i) (name_in s row) (next-after s rows (Some j) e j refl) h
 
-  fewer : (last : LastKey) {i : ℕ} → next_key s rows last ≡ At i → count (waits (After i)) rows < count (waits last) rows
+  fewer : (last : Option ℕ) {i : ℕ} → next_key s rows last ≡ Some i → count (waits (Some i)) rows < count (waits last) rows
   fewer last {i} e =
       let b = next_best s rows last e in
-      count-fewer (waits last) (waits (After i)) (still last e) rows i b.inside b.comes (not_itself (key_at s rows i))
+      count-fewer (waits last) (waits (Some i)) (still last e) rows i b.inside b.comes (not_itself (key_at s rows i))
 
-  has-after : (most : ℕ) (last : LastKey) → count (waits last) rows ≤ most → (k : ℕ) → k < length rows → to_come s rows last (key_at s rows k) ≡ true
+  has-after : (most : ℕ) (last : Option ℕ) → count (waits last) rows ≤ most → (k : ℕ) → k < length rows → to_come s rows last (key_at s rows k) ≡ true
       → Has (key_at s rows k) (ordered_after s rows most last)
   unfolding ordered_after
   has-after zero last few k h c = let some = count-some (waits last) rows k h c in absurd (omega arith)
-  has-after (suc most) last few k h c = by (next_key s rows last) refl (λ i few' d. has-after most (After i) few' k h d)
+  has-after (suc most) last few k h c = by (next_key s rows last) refl (λ i few' d. has-after most (Some i) few' k h d)
     where
-      here : (i : ℕ) → next_key s rows last ≡ At i → (b : Bool) → before (key_at s rows i) (key_at s rows k) ≡ b
-          → ((j : ℕ) → count (waits (After j)) rows ≤ most → before (key_at s rows j) (key_at s rows k) ≡ true → Has (key_at s rows k) (ordered_after s rows most (After j)))
-          → Has (key_at s rows k) (get_or rows i [] ∷ ordered_after s rows most (After i))
+      here : (i : ℕ) → next_key s rows last ≡ Some i → (b : Bool) → before (key_at s rows i) (key_at s rows k) ≡ b
+          → ((j : ℕ) → count (waits (Some j)) rows ≤ most → before (key_at s rows j) (key_at s rows k) ≡ true → Has (key_at s rows k) (ordered_after s rows most (Some j)))
+          → Has (key_at s rows k) (get_or rows i [] ∷ ordered_after s rows most (Some i))
       here i e true d rest = let f = fewer last e in inr (rest i (omega arith) d)
       here i e false d rest = inl (neither (key_at s rows i) (key_at s rows k) d ((next_best s rows last e).least k h c))
 
-      by : (z : NextKey) → next_key s rows last ≡ z
-          → ((j : ℕ) → count (waits (After j)) rows ≤ most → before (key_at s rows j) (key_at s rows k) ≡ true → Has (key_at s rows k) (ordered_after s rows most (After j)))
+      by : (z : Option ℕ) → next_key s rows last ≡ z
+          → ((j : ℕ) → count (waits (Some j)) rows ≤ most → before (key_at s rows j) (key_at s rows k) ≡ true → Has (key_at s rows k) (ordered_after s rows most (Some j)))
           → Has (key_at s rows k) (row_then rows (λ next. ordered_after s rows most next) z)
-      by Done e rest = clash c (next-none s rows last e k h)
-      by (At i) e rest = here i e (before (key_at s rows i) (key_at s rows k)) refl rest
+      by None e rest = clash c (next-none s rows last e k h)
+      by (Some i) e rest = here i e (before (key_at s rows i) (key_at s rows k)) refl rest
 
   -- the first of the rows after the row i comes after it
-  precedes : (most i : ℕ) → Precedes (get_or rows i []) (ordered_after s rows most (After i))
+  precedes : (most i : ℕ) → Precedes (get_or rows i []) (ordered_after s rows most (Some i))
   unfolding ordered_after
   precedes zero i = tt
-  precedes (suc most) i = by (next_key s rows (After i)) refl
+  precedes (suc most) i = by (next_key s rows (Some i)) refl
     where
-      by : (z : NextKey) → next_key s rows (After i) ≡ z → Precedes (get_or rows i []) (row_then rows (λ next. ordered_after s rows most next) z)
-      by Done e = tt
-      by (At j) e = next-after s rows (After i) e i refl
+      by : (z : Option ℕ) → next_key s rows (Some i) ≡ z → Precedes (get_or rows i []) (row_then rows (λ next. ordered_after s rows most next) z)
+      by None e = tt
+      by (Some j) e = next-after s rows (Some i) e i refl
 
-  rising_after : (most : ℕ) (last : LastKey) → Rising (ordered_after s rows most last)
+  rising_after : (most : ℕ) (last : Option ℕ) → Rising (ordered_after s rows most last)
   unfolding ordered_after
   rising_after zero last = tt
   rising_after (suc most) last = by (next_key s rows last) (rising_after most)
     where
-      by : (z : NextKey) → ((y : LastKey) → Rising (ordered_after s rows most y)) → Rising (row_then rows (λ next. ordered_after s rows most next) z)
-      by Done rest = tt
-      by (At i) rest = (precedes most i, rest (After i))
+      by : (z : Option ℕ) → ((y : Option ℕ) → Rising (ordered_after s rows most y)) → Rising (row_then rows (λ next. ordered_after s rows most next) z)
+      by None rest = tt
+      by (Some i) rest = (precedes most i, rest (Some i))
 
-  surviving_after : (most : ℕ) (last : LastKey) → All Surviving (ordered_after s rows most last)
+  surviving_after : (most : ℕ) (last : Option ℕ) → All Surviving (ordered_after s rows most last)
   unfolding ordered_after
   surviving_after zero last = tt
   surviving_after (suc most) last = by (next_key s rows last) refl (surviving_after most)
     where
-      by : (z : NextKey) → next_key s rows last ≡ z → ((y : LastKey) → All Surviving (ordered_after s rows most y)) → All Surviving (row_then rows (λ next. ordered_after s rows most next) z)
-      by Done e rest = tt
-      by (At i) e rest = (record { place = i; inside = (next_best s rows last e).inside; same = refl; last = next-latest s rows last e }, rest (After i))
+      by : (z : Option ℕ) → next_key s rows last ≡ z → ((y : Option ℕ) → All Surviving (ordered_after s rows most y)) → All Surviving (row_then rows (λ next. ordered_after s rows most next) z)
+      by None e rest = tt
+      by (Some i) e rest = (record { place = i; inside = (next_best s rows last e).inside; same = refl; last = next-latest s rows last e }, rest (Some i))
 
   -- the keys strictly ascend: each stands once
   pub ordered_rises : Rising (ordered s rows)
   unfolding ordered
-  ordered_rises = rising_after (length rows) Start
+  ordered_rises = rising_after (length rows) None
 
   -- every row's key is there
   pub ordered-complete : (k : ℕ) → k < length rows → Has (key_at s rows k) (ordered s rows)
   unfolding ordered
-  ordered-complete k h = has-after (length rows) Start (count-all (waits Start) rows) k h refl
+  ordered-complete k h = has-after (length rows) None (count-all (waits None) rows) k h refl
 
   -- and stands for the last row that has it
   pub ordered_survives : All Surviving (ordered s rows)
   unfolding ordered
-  ordered_survives = surviving_after (length rows) Start
+  ordered_survives = surviving_after (length rows) None

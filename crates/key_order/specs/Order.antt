@@ -1,11 +1,7 @@
 -- Keys in byte order, each once: which entry row comes next.
-use Rattle.std.specs.Prelude.{ℕ, zero, suc, Bool, true, List, [], ◌∷◌, length, get_or, if◌then◌else◌}
+use Rattle.std.specs.Prelude.{ℕ, zero, suc, Bool, true, List, [], ◌∷◌, length, get_or, if◌then◌else◌, Option, Some, None}
 use Rattle.fields.specs.Order.{before}
 use Rattle.values.specs.Contents.{inside_of}
-use Rattle.key_order.specs.declared.LastKey.{LastKey}
-use Rattle.key_order.specs.declared.LastKey.TheVariants.{Start, After}
-use Rattle.key_order.specs.declared.NextKey.{NextKey}
-use Rattle.key_order.specs.declared.NextKey.TheVariants.{At, Done}
 use Rattle.rows.specs.Columns.{place_in, length_in}
 
 -- the name of a row: an entry's key, or a tensor's name
@@ -18,39 +14,39 @@ key_at s rows i = name_in s (get_or rows i [])
 
 -- whether a key is still to come: at the start all are, and after a row those that its key comes
 -- before
-abbrev pub to_come : List ℕ → List (List ℕ) → LastKey → List ℕ → Bool
-to_come s rows Start key = true
-to_come s rows (After j) key = before (key_at s rows j) key
+abbrev pub to_come : List ℕ → List (List ℕ) → Option ℕ → List ℕ → Bool
+to_come s rows None key = true
+to_come s rows (Some j) key = before (key_at s rows j) key
 
 -- the better of the best so far and the row i, whose key is key: the lesser key, and of equal keys
 -- the later row
-abbrev pub better : List ℕ → List (List ℕ) → NextKey → ℕ → List ℕ → NextKey
-better s rows Done i key = At i
-better s rows (At j) i key = if before (key_at s rows j) key then At j else At i
+abbrev pub better : List ℕ → List (List ℕ) → Option ℕ → ℕ → List ℕ → Option ℕ
+better s rows None i key = Some i
+better s rows (Some j) i key = if before (key_at s rows j) key then Some j else Some i
 
 -- the best so far, once the row i was looked at
-abbrev pub improved : List ℕ → List (List ℕ) → LastKey → NextKey → ℕ → List ℕ → NextKey
+abbrev pub improved : List ℕ → List (List ℕ) → Option ℕ → Option ℕ → ℕ → List ℕ → Option ℕ
 improved s rows last z i key = if to_come s rows last key then better s rows z i key else z
 
 -- the best of all, where z is the best so far and the rows from i on are left
-abbrev pub best_from : List ℕ → List (List ℕ) → LastKey → NextKey → ℕ → List (List ℕ) → NextKey
+abbrev pub best_from : List ℕ → List (List ℕ) → Option ℕ → Option ℕ → ℕ → List (List ℕ) → Option ℕ
 best_from s rows last z i [] = z
 best_from s rows last z i (row ∷ more) = best_from s rows last (improved s rows last z i (name_in s row)) (suc i) more
 
 -- the row whose key comes next, or the end
-abbrev pub next_key : List ℕ → List (List ℕ) → LastKey → NextKey
-next_key s rows last = best_from s rows last Done 0 rows
+abbrev pub next_key : List ℕ → List (List ℕ) → Option ℕ → Option ℕ
+next_key s rows last = best_from s rows last None 0 rows
 
 -- the row that comes next, with those after it, and none at the end
-abbrev pub row_then : List (List ℕ) → (LastKey → List (List ℕ)) → NextKey → List (List ℕ)
-row_then rows more Done = []
-row_then rows more (At i) = get_or rows i [] ∷ more (After i)
+abbrev pub row_then : List (List ℕ) → (Option ℕ → List (List ℕ)) → Option ℕ → List (List ℕ)
+row_then rows more None = []
+row_then rows more (Some i) = get_or rows i [] ∷ more (Some i)
 
 -- the rows whose keys are still to come, in the order of their keys, at most so many
-unfoldable pub ordered_after : List ℕ → List (List ℕ) → ℕ → LastKey → List (List ℕ)
+unfoldable pub ordered_after : List ℕ → List (List ℕ) → ℕ → Option ℕ → List (List ℕ)
 ordered_after s rows zero last = []
 ordered_after s rows (suc most) last = row_then rows (λ next. ordered_after s rows most next) (next_key s rows last)
 
 -- the rows in the byte order of their keys, each key once, with the last row that has it
 unfoldable pub ordered : List ℕ → List (List ℕ) → List (List ℕ)
-ordered s rows = ordered_after s rows (length rows) Start
+ordered s rows = ordered_after s rows (length rows) None

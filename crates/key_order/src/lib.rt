@@ -8,20 +8,6 @@ ghost use Rattle.key_order.specs.Order as order;
 use rows::{EntryRow, KEY_LENGTH, KEY_PLACE};
 use values::Span;
 
-// Where a walk over the keys stands: before the first, or after that of an entry row.
-#[derive(Clone, Copy)]
-pub enum LastKey {
-    Start,
-    After { row: usize },
-}
-
-// The entry row whose key comes next, or the end.
-#[derive(Clone, Copy)]
-pub enum NextKey {
-    At { row: usize },
-    Done,
-}
-
 // The name of a row, as the part of the prefix that holds it.
 pub fn name_in(s: &[u8], place: u64, len: u64) -> &[u8]
     ensures { result.now ≡ inside_of s.now (record { place = place; len = len }) }
@@ -40,41 +26,46 @@ pub fn name_in(s: &[u8], place: u64, len: u64) -> &[u8]
 fn key_at<'a>(s: &'a [u8], entries: &[EntryRow], i: usize) -> &'a [u8]
     ensures { result.now ≡ order.key_at s.now entries.now i }
 {
-    if entries.len() <= i {
-        return name_in(s, 0, 0);
+    match entries.get(i) {
+        Some(row) => name_in(s, row[KEY_PLACE], row[KEY_LENGTH]),
+        None => name_in(s, 0, 0),
     }
-    let row = entries[i];
-    name_in(s, row[KEY_PLACE], row[KEY_LENGTH])
 }
 
 // Whether a key is still to come, where the walk stands at last.
-fn is_to_come(s: &[u8], entries: &[EntryRow], last: LastKey, key: &[u8]) -> bool
+fn is_to_come(s: &[u8], entries: &[EntryRow], last: Option<usize>, key: &[u8]) -> bool
     ensures { result ≡ order.to_come s.now entries.now last key.now }
 {
     match last {
-        LastKey::Start => true,
-        LastKey::After { row } => fields::comes_before(key_at(s, entries, row), key),
+        None => true,
+        Some(row) => fields::comes_before(key_at(s, entries, row), key),
     }
 }
 
 // The better of the best so far and the row i, which has that key.
-fn better(s: &[u8], entries: &[EntryRow], best: NextKey, i: usize, key: &[u8]) -> NextKey
+fn better(
+    s: &[u8],
+    entries: &[EntryRow],
+    best: Option<usize>,
+    i: usize,
+    key: &[u8],
+) -> Option<usize>
     ensures { result ≡ order.better s.now entries.now best i key.now }
 {
     match best {
-        NextKey::Done => NextKey::At { row: i },
-        NextKey::At { row } => {
-            if fields::comes_before(key_at(s, entries, row), key) {
-                NextKey::At { row }
-            } else {
-                NextKey::At { row: i }
-            }
-        }
+        Some(row) if fields::comes_before(key_at(s, entries, row), key) => best,
+        _ => Some(i),
     }
 }
 
 // The best so far, once the row i was looked at.
-fn improved(s: &[u8], entries: &[EntryRow], last: LastKey, best: NextKey, i: usize) -> NextKey
+fn improved(
+    s: &[u8],
+    entries: &[EntryRow],
+    last: Option<usize>,
+    best: Option<usize>,
+    i: usize,
+) -> Option<usize>
     ensures { result ≡ order.improved s.now entries.now last best i (order.key_at s.now entries.now i) }
 {
     let key = key_at(s, entries, i);
@@ -87,14 +78,12 @@ fn improved(s: &[u8], entries: &[EntryRow], last: LastKey, best: NextKey, i: usi
 
 // The row whose key comes next, in byte order, where the walk stands at last. Of equal keys the
 // last row stands for all.
-pub fn next_key(s: &[u8], entries: &[EntryRow], last: LastKey) -> NextKey
+pub fn next_key(s: &[u8], entries: &[EntryRow], last: Option<usize>) -> Option<usize>
     ensures { result ≡ order.next_key s.now entries.now last }
 {
-    let mut best = NextKey::Done;
-    let mut i: usize = 0;
-    while i < entries.len() {
+    let mut best = None;
+    for i in 0..entries.len() {
         best = improved(s, entries, last, best, i);
-        i += 1;
     }
     best
 }

@@ -1,6 +1,6 @@
 -- Products of 64 bits: when one fits, what is answered of it, and the products of a shape's lengths
 -- one after the other. Assumes nothing.
-use Rattle.std.specs.Prelude.{if◌then◌else◌}
+use Rattle.std.specs.Prelude.{if◌then◌else◌, Option, Some, None}
 use Prim.Native.Nat.{ℕ, ◌*◌, ◌/◌, ◌≤◌, ◌<◌, ◌^◌}
 use mathlib.Core.Path.{◌≡◌, refl, ◌∙◌}
 use mathlib.Core.Bool.{Bool, true, false}
@@ -16,8 +16,6 @@ use denote.Laws.{Is}
 use denote.Plain.{UInt}
 use denote.Shadow.{shadow}
 use denote.Array.{Array, each}
-use Rattle.kinds.specs.declared.Bounded.{Bounded}
-use Rattle.kinds.specs.declared.Bounded.TheVariants.{Fits, Over}
 use Rattle.kinds.specs.Shape.{greatest, first_length, product_from, products_fit_from, bounded_product}
 
 -- a product is too great, or fits, as the quotient says
@@ -38,30 +36,30 @@ few_fit n b few small =
     omega (arith, mul-le-mul_left n h)
 
 -- what was answered tells how the test went
-pub answered : (b : Bool) (n : ℕ) {m : ℕ} → Fits m ≡ (if b then Fits n else Over) → (b ≡ true) × (n ≡ m)
+pub answered : (b : Bool) (n : ℕ) {m : ℕ} → Some m ≡ (if b then Some n else None) → (b ≡ true) × (n ≡ m)
 answered true n e = (refl, cc)
 answered false n e = let z : ◌≡◌ {A = ℕ} 0 1 = cc in absurd (omega arith)
 
-pub refused : (b : Bool) (n : ℕ) → Over ≡ (if b then Fits n else Over) → b ≡ false
+pub refused : (b : Bool) (n : ℕ) → None ≡ (if b then Some n else None) → b ≡ false
 refused true n e = let z : ◌≡◌ {A = ℕ} 0 1 = cc in absurd (omega arith)
 refused false n e = refl
 
 -- what is answered of a number
-abbrev pub fitted : ℕ → Bounded
-fitted n = if leb n greatest then Fits n else Over
+abbrev pub fitted : ℕ → Option ℕ
+fitted n = if leb n greatest then Some n else None
 
 -- what is answered of x times each length
-abbrev whole_from : ℕ → List ℕ → Bounded
-whole_from x l = if products_fit_from x l then Fits (product_from x l) else Over
+abbrev whole_from : ℕ → List ℕ → Option ℕ
+whole_from x l = if products_fit_from x l then Some (product_from x l) else None
 
 module _ (x n : ℕ) (l : List ℕ) where
-  goes_on : {y : ℕ} → Fits y ≡ fitted (x * n) → whole_from y l ≡ whole_from x (n ∷ l)
+  goes_on : {y : ℕ} → Some y ≡ fitted (x * n) → whole_from y l ≡ whole_from x (n ∷ l)
   goes_on e = let h = answered (leb (x * n) greatest) (x * n) e in rw (h.0, h.1)
 
-  stops : Over ≡ fitted (x * n) → Over ≡ whole_from x (n ∷ l)
+  stops : None ≡ fitted (x * n) → None ≡ whole_from x (n ∷ l)
   stops e = rw (refused (leb (x * n) greatest) (x * n) e)
 
-ends_by : (b : Bool) (n : ℕ) → (if b then Fits n else Over) ≡ (if (if b then true else false) then Fits n else Over)
+ends_by : (b : Bool) (n : ℕ) → (if b then Some n else None) ≡ (if (if b then true else false) then Some n else None)
 ends_by true n = refl
 ends_by false n = refl
 
@@ -90,15 +88,15 @@ lengths (a ∷ b ∷ c ∷ d ∷ e ∷ l) vs p = absurd (omega (arith, p.1.0.1))
 
 -- what is answered where a product does not fit, and where all do
 module _ {s : List ℕ} (four : Lengths s) where
-  pub no_plane : Over ≡ fitted (get_or s 0 0 * get_or s 1 0) → Over ≡ bounded_product s
+  pub no_plane : None ≡ fitted (get_or s 0 0 * get_or s 1 0) → None ≡ bounded_product s
   no_plane e = stops (get_or s 0 0) (get_or s 1 0) (get_or s 2 0 ∷ get_or s 3 0 ∷ []) e ∙ four.begins
 
-  module _ {plane : ℕ} (e : Fits plane ≡ fitted (get_or s 0 0 * get_or s 1 0)) where
+  module _ {plane : ℕ} (e : Some plane ≡ fitted (get_or s 0 0 * get_or s 1 0)) where
     from_plane : whole_from plane (get_or s 2 0 ∷ get_or s 3 0 ∷ []) ≡ bounded_product s
     from_plane = goes_on (get_or s 0 0) (get_or s 1 0) (get_or s 2 0 ∷ get_or s 3 0 ∷ []) e ∙ four.begins
 
-    pub no_solid : Over ≡ fitted (plane * get_or s 2 0) → Over ≡ bounded_product s
+    pub no_solid : None ≡ fitted (plane * get_or s 2 0) → None ≡ bounded_product s
     no_solid f = stops plane (get_or s 2 0) (get_or s 3 0 ∷ []) f ∙ from_plane
 
-    pub whole : {solid : ℕ} → Fits solid ≡ fitted (plane * get_or s 2 0) → fitted (solid * get_or s 3 0) ≡ bounded_product s
+    pub whole : {solid : ℕ} → Some solid ≡ fitted (plane * get_or s 2 0) → fitted (solid * get_or s 3 0) ≡ bounded_product s
     whole {solid} f = ends solid (get_or s 3 0) ∙ goes_on plane (get_or s 2 0) (get_or s 3 0 ∷ []) f ∙ from_plane

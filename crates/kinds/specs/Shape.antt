@@ -1,11 +1,8 @@
 -- The product of a shape's lengths, and the bytes of a tensor of that shape and a kind. The first
 -- length must be whole blocks, and each number must fit 64 bits.
-use Rattle.std.specs.Prelude.{ℕ, ◌*◌, ◌/◌, ◌%◌, ◌^◌, ◌-◌, Bool, true, false, List, [], ◌∷◌, leb, eqb, if◌then◌else◌}
+use Rattle.std.specs.Prelude.{ℕ, ◌*◌, ◌/◌, ◌%◌, ◌^◌, ◌-◌, Bool, true, false, List, [], ◌∷◌, leb, eqb, if◌then◌else◌, Option, Some, None, Result, Ok, Err}
 use Rattle.reading.specs.Choice.{require}
-use Rattle.kinds.specs.declared.Bounded.{Bounded}
-use Rattle.kinds.specs.declared.Bounded.TheVariants.{Fits, Over}
 use Rattle.kinds.specs.declared.Measure.{Measure}
-use Rattle.kinds.specs.declared.Measure.TheVariants.{Bytes, Refused}
 use Rattle.kinds.specs.Table.{block_of, known_kind, written_kind}
 
 -- the greatest number of 64 bits
@@ -58,14 +55,14 @@ abbrev pub size_of : List ℕ → ℕ → ℕ
 size_of shape k = bytes_for (product_of shape) k
 
 -- what `product` answers
-abbrev pub bounded_product : List ℕ → Bounded
-bounded_product shape = if products_fit shape then Fits (product_of shape) else Over
+abbrev pub bounded_product : List ℕ → Option ℕ
+bounded_product shape = if products_fit shape then Some (product_of shape) else None
 
 -- what `size` answers: an unknown kind first, then the first length, the products, the size
-abbrev pub measure_of : List ℕ → ℕ → Measure
+abbrev pub measure_of : List ℕ → ℕ → Result Measure ℕ
 measure_of shape k =
-    require (known_kind k) (Refused 11)
-    (require (whole_blocks (first_length shape) k) (Refused 17)
-    (require (products_fit shape) (Refused 13)
-    (require (size_within shape k) (Refused 14)
-    (Bytes (product_of shape) (size_of shape k)))))
+    require (known_kind k) (Err 11)
+    (require (whole_blocks (first_length shape) k) (Err 17)
+    (require (products_fit shape) (Err 13)
+    (require (size_within shape k) (Err 14)
+    (Ok (record { product = product_of shape; size = size_of shape k })))))

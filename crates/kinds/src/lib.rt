@@ -1,12 +1,12 @@
 // The kinds of tensor data, and the size of a tensor.
 #![tactic(auto)]
 
-ghost use Rattle.std.specs.Prelude.{◌≡◌, true, ◌*◌, ◌≤◌, leb, if◌then◌else◌};
+ghost use Rattle.std.specs.Prelude.{◌≡◌, true, ◌*◌, ◌≤◌, leb};
 ghost use Rattle.kinds.specs.Table.{block, block_of, known_kind, written_kind};
 ghost use Rattle.kinds.specs.Shape.{greatest, whole_blocks, bytes_for, product_of, products_fit, bounded_product, measure_of};
-ghost use Rattle.kinds.specs.declared.Bounded.TheVariants.{Fits, Over};
+ghost use Rattle.reading.specs.Replies.{as_result};
 
-use fields::GREATEST;
+use reading::Reason;
 
 // How many numbers a block of a kind holds, and how many bytes it takes. A block of no numbers:
 // there is no such kind.
@@ -16,21 +16,15 @@ pub struct Block {
     pub bytes: u64,
 }
 
-// A product that fits 64 bits, or one that does not.
+// A tensor's count of numbers, and its size in bytes.
 #[derive(Clone, Copy)]
-pub enum Bounded {
-    Fits { value: u64 },
-    Over,
-}
-
-// A tensor's count of numbers and its size in bytes, or the refusal: 11, 17, 13 or 14.
-#[derive(Clone, Copy)]
-pub enum Measure {
-    Bytes { product: u64, size: u64 },
-    Refused { why: u64 },
+pub struct Measure {
+    pub product: u64,
+    pub size: u64,
 }
 
 // How many numbers a block of a kind holds: none where a number names no kind.
+#[tactic(auto, unfolding(crate::specs::Table::block_of))]
 fn block_size(kind: u64) -> u64
     ensures { result ≡ (block_of kind).numbers }
 {
@@ -45,6 +39,7 @@ fn block_size(kind: u64) -> u64
 
 // How many bytes a block of a kind takes: none where a kind is never written, and where a number
 // names no kind. Single numbers make the match one look into a table.
+#[tactic(auto, unfolding(crate::specs::Table::block_of))]
 fn type_size(kind: u64) -> u64
     ensures { result ≡ (block_of kind).bytes }
 {
@@ -90,13 +85,11 @@ pub fn block_and_type_size(kind: u64) -> Block
 }
 
 // Whether a number names a kind.
+#[tactic(auto, unfolding(crate::specs::Table::block_of))]
 pub fn is_known(kind: u64) -> bool
     ensures { result ≡ known_kind kind }
 {
-    match kind {
-        0..=3 | 6..=39 => true,
-        _ => false,
-    }
+    matches!(kind, 0..=3 | 6..=39)
 }
 
 // Whether a kind is written.
@@ -121,31 +114,13 @@ pub fn whole_blocks(n: u64, kind: u64) -> bool
     }
 }
 
-// The product of two numbers, where it fits. It is made where one factor is 0 or 1, or after a
-// division has shown that it fits.
-fn times(a: u64, b: u64) -> Bounded
-    ensures { result ≡ (if leb (a * b) greatest then Fits (a * b) else Over) }
-{
-    if b < 2 {
-        return Bounded::Fits { value: a * b };
-    }
-    if GREATEST / b < a {
-        return Bounded::Over;
-    }
-    Bounded::Fits { value: a * b }
-}
-
 // The product of a shape's lengths, from the left: each product on the way must fit.
-pub fn product(shape: [u64; 4]) -> Bounded
+pub fn product(shape: [u64; 4]) -> Option<u64>
     ensures { result ≡ bounded_product shape }
 {
-    let Bounded::Fits { value: plane } = times(shape[0], shape[1]) else {
-        return Bounded::Over;
-    };
-    let Bounded::Fits { value: solid } = times(plane, shape[2]) else {
-        return Bounded::Over;
-    };
-    times(solid, shape[3])
+    let plane = shape[0].checked_mul(shape[1])?;
+    let solid = plane.checked_mul(shape[2])?;
+    solid.checked_mul(shape[3])
 }
 
 // The product of a shape's lengths, for callers that know that each product on the way fits.
@@ -158,20 +133,20 @@ pub fn known_product(shape: [u64; 4]) -> u64
 
 // Whether the bytes of so many numbers of a kind fit 64 bits. No block takes 512 bytes, so of fewer
 // than 2 ^ 55 numbers they do.
+#[tactic(auto, using(crate::proofs::SizeTests::few_numbers_fit))]
 pub fn fits(numbers: u64, kind: u64) -> bool
     ensures { result ≡ leb (numbers * (block_of kind).bytes) greatest }
 {
-    if numbers < 36028797018963968 {
+    if numbers < 1 << 55 {
         return true;
     }
-    match times(type_size(kind), numbers) {
-        Bounded::Fits { value: _ } => true,
-        Bounded::Over => false,
-    }
+    numbers.checked_mul(type_size(kind)).is_some()
 }
 
 // The bytes of so many numbers of a kind, for callers that know that they fit. Each arm divides by a
 // constant, because that is a shift.
+// Inlined, for the loop that fills rows.
+#[inline(always)]
 pub fn known_size(numbers: u64, kind: u64) -> u64
     requires { numbers * (block_of kind).bytes ≤ greatest }
     ensures { result ≡ bytes_for numbers kind }
@@ -186,24 +161,22 @@ pub fn known_size(numbers: u64, kind: u64) -> u64
 }
 
 // The numbers and the bytes of a tensor.
-pub fn size(shape: [u64; 4], kind: u64) -> Measure
-    ensures { result ≡ measure_of shape kind }
+pub fn size(shape: [u64; 4], kind: u64) -> Result<Measure, Reason>
+    ensures { as_result result ≡ measure_of shape kind }
 {
     let block = block_and_type_size(kind);
     if block.numbers == 0 {
-        return Measure::Refused { why: 11 };
+        return Err(Reason::UnknownKind);
     }
     if !whole_blocks(shape[0], kind) {
-        return Measure::Refused { why: 17 };
+        return Err(Reason::PartialBlock);
     }
-    let Bounded::Fits { value: numbers } = product(shape) else {
-        return Measure::Refused { why: 13 };
-    };
-    if fits(numbers, kind) {
-        return Measure::Bytes {
-            product: numbers,
-            size: numbers * block.bytes / block.numbers,
-        };
-    }
-    Measure::Refused { why: 14 }
+    let numbers = product(shape).ok_or(Reason::ProductOverflow)?;
+    let bytes = numbers
+        .checked_mul(block.bytes)
+        .ok_or(Reason::SizeOverflow)?;
+    Ok(Measure {
+        product: numbers,
+        size: bytes / block.numbers,
+    })
 }

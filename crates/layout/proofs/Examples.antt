@@ -1,5 +1,6 @@
 -- Worked numbers: two tensors laid out, and a refusal of each kind, computed by the checker.
 -- Assumes nothing.
+use Rattle.std.specs.Prelude.{Ok, Err}
 use Prim.Native.Nat.{ℕ, ◌-◌, ◌^◌}
 use mathlib.Core.Path.{◌≡◌, refl}
 use mathlib.Core.List.{[], ◌∷◌}
@@ -8,7 +9,6 @@ use Rattle.kinds.specs.Table.{block_of}
 use Rattle.layout.specs.Layout.{place_of, Piece, laid_out_from, refused_at, layout_from, layout_of}
 use Rattle.layout.specs.Placement.{is_placement}
 use Rattle.layout.specs.declared.Laid.{Laid}
-use Rattle.layout.specs.declared.Placed.TheVariants.{At, Refused}
 
 abbrev piece : ℕ → ℕ → Piece
 piece length kind = record { lengths = length ∷ 1 ∷ 1 ∷ 1 ∷ []; kind = kind }
@@ -51,34 +51,34 @@ partial-block : layout_of 32 (piece 5 0 ∷ piece 33 2 ∷ []) ≡ refused_at 17
 unfolding layout_from place_of block_of
 partial-block = refl
 
-partial_of_one : place_of 32 (laid 0 0) (1 ∷ 1 ∷ 1 ∷ 1 ∷ []) 2 ≡ Refused 17
+partial_of_one : place_of 32 (laid 0 0) (1 ∷ 1 ∷ 1 ∷ 1 ∷ []) 2 ≡ Err 17
 unfolding place_of block_of
 partial_of_one = refl
 
 -- lengths of which a product does not fit, and a product of which the bytes do not
-product-over : place_of 32 (laid 0 0) (2 ^ 32 ∷ 2 ^ 32 ∷ 0 ∷ 1 ∷ []) 0 ≡ Refused 13
+product-over : place_of 32 (laid 0 0) (2 ^ 32 ∷ 2 ^ 32 ∷ 0 ∷ 1 ∷ []) 0 ≡ Err 13
 unfolding place_of block_of
 product-over = refl
 
-bytes-over : place_of 32 (laid 0 0) (2 ^ 62 ∷ 1 ∷ 1 ∷ 1 ∷ []) 0 ≡ Refused 14
+bytes-over : place_of 32 (laid 0 0) (2 ^ 62 ∷ 1 ∷ 1 ∷ 1 ∷ []) 0 ≡ Err 14
 unfolding place_of block_of
 bytes-over = refl
 
 -- products that fit one by one, and not together
-total-over : place_of 32 (laid (2 ^ 64 - 5) 0) (5 ∷ 1 ∷ 1 ∷ 1 ∷ []) 0 ≡ Refused 15
+total-over : place_of 32 (laid (2 ^ 64 - 5) 0) (5 ∷ 1 ∷ 1 ∷ 1 ∷ []) 0 ≡ Err 15
 unfolding place_of block_of
 total-over = refl
 
 -- an end that does not fit, and one that does while its padding does not
-end-over : place_of 8 (laid 0 (2 ^ 64 - 16)) (5 ∷ 1 ∷ 1 ∷ 1 ∷ []) 0 ≡ Refused 36
+end-over : place_of 8 (laid 0 (2 ^ 64 - 16)) (5 ∷ 1 ∷ 1 ∷ 1 ∷ []) 0 ≡ Err 36
 unfolding place_of block_of
 end-over = refl
 
-padding-over : place_of 32 (laid 0 (2 ^ 64 - 32)) (5 ∷ 1 ∷ 1 ∷ 1 ∷ []) 0 ≡ Refused 36
+padding-over : place_of 32 (laid 0 (2 ^ 64 - 32)) (5 ∷ 1 ∷ 1 ∷ 1 ∷ []) 0 ≡ Err 36
 unfolding place_of block_of
 padding-over = refl
 
 -- one alignment earlier both fit
-padding-fits : place_of 32 (laid 0 (2 ^ 64 - 64)) (5 ∷ 1 ∷ 1 ∷ 1 ∷ []) 0 ≡ At (2 ^ 64 - 64) 20 (laid 5 (2 ^ 64 - 32))
+padding-fits : place_of 32 (laid 0 (2 ^ 64 - 64)) (5 ∷ 1 ∷ 1 ∷ 1 ∷ []) 0 ≡ Ok (record { offset = 2 ^ 64 - 64; size = 20; laid = laid 5 (2 ^ 64 - 32) })
 unfolding place_of block_of
 padding-fits = refl

@@ -1,5 +1,6 @@
 -- What a mapper relies on: the offsets of an accepted list are the least that keep the order, the
 -- alignment and the space of each tensor. Assumes nothing.
+use Rattle.std.specs.Prelude.{Result, Ok, Err}
 use Prim.Native.Nat.{ℕ, zero, suc, ◌+◌, ◌%◌, ◌≤◌, ◌<◌}
 use mathlib.Core.Path.{◌≡◌, refl, ap}
 use mathlib.Core.List.{List, [], ◌∷◌, map}
@@ -15,7 +16,6 @@ use Rattle.layout.specs.Layout.{place_of, Piece, Layout, laid_out_from, refused_
 use Rattle.layout.specs.Placement.{piece_size, may_start_after, Earliest}
 use Rattle.layout.specs.declared.Laid.{Laid}
 use Rattle.layout.specs.declared.Placed.{Placed}
-use Rattle.layout.specs.declared.Placed.TheVariants.{At, Refused}
 use Rattle.layout.proofs.Padding.{padded-above, padded-multiple, padded-least}
 use Rattle.layout.proofs.Places.{placed_by}
 
@@ -36,25 +36,25 @@ record Ruled (a n : ℕ) (pieces : List Piece) (offsets : List ℕ) (after : Lai
   end_fits : n ≤ greatest → after.next ≤ greatest
 
 -- an accepted list of at least one: its tensor was placed, and then the rest accepted
-record Went (answer : Placed) (rest : Laid → Layout) (offsets : List ℕ) (after : Laid) : Type 0 where
+record Went (answer : Result Placed ℕ) (rest : Laid → Layout) (offsets : List ℕ) (after : Laid) : Type 0 where
   offset : ℕ
   size : ℕ
   laid : Laid
   others : List ℕ
-  placed : answer ≡ At offset size laid
+  placed : answer ≡ Ok (record { offset = offset; size = size; laid = laid })
   goes_on : rest laid ≡ laid_out_from others after
   are : offsets ≡ offset ∷ others
 
 went-by : (o s : ℕ) (l : Laid) (rest : Laid → Layout) (r : Layout) {offsets : List ℕ} {after : Laid} → rest l ≡ r → ahead o r ≡ laid_out_from offsets after
-    → Went (At o s l) rest offsets after
+    → Went (Ok (record { offset = o; size = s; laid = l })) rest offsets after
 went-by o s l rest (laid_out_from others last) {offsets} {after} is e =
     record { offset = o; size = s; laid = l; others = others; placed = refl; goes_on = cc; are = cc }
 went-by o s l rest (refused_at why i) is e = let z : ◌≡◌ {A = ℕ} 0 1 = cc in absurd (omega arith)
 
-went : (answer : Placed) (i : ℕ) (rest : Laid → Layout) {offsets : List ℕ} {after : Laid} → followed_by answer i rest ≡ laid_out_from offsets after
+went : (answer : Result Placed ℕ) (i : ℕ) (rest : Laid → Layout) {offsets : List ℕ} {after : Laid} → followed_by answer i rest ≡ laid_out_from offsets after
     → Went answer rest offsets after
-went (At o s l) i rest e = went-by o s l rest (rest l) refl e
-went (Refused why) i rest e = let z : ◌≡◌ {A = ℕ} 0 1 = cc in absurd (omega arith)
+went (Ok p) i rest e = went-by p.offset p.size p.laid rest (rest p.laid) refl e
+went (Err why) i rest e = let z : ◌≡◌ {A = ℕ} 0 1 = cc in absurd (omega arith)
 
 ruled : (a : ℕ) (laid : Laid) (i : ℕ) (pieces : List Piece) {offsets : List ℕ} {after : Laid} → layout_from a laid i pieces ≡ laid_out_from offsets after
     → Ruled a laid.next pieces offsets after

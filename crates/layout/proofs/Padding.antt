@@ -64,3 +64,6 @@ module _ (a : ℕ) (pos : 0 < a) where
   -- padding once is enough
   pub padded-again : (n : ℕ) → padded a (padded a n) ≡ padded a n
   padded-again n = padded-whole a (padded a n) pos (padded-multiple n)
+
+-- what `pad` rests on
+pub ruleset paddings = (padded-whole, padded_up)

@@ -1,14 +1,13 @@
 -- Where tensors go, from the public GGUF document: the first offset is 0, each next one is the
 -- least multiple of the alignment that is not below the end of the tensor before it, and the last
 -- end is padded too. Every number on the way must fit 64 bits.
-use Rattle.std.specs.Prelude.{ℕ, suc, ◌+◌, List, [], ◌∷◌, leb}
+use Rattle.std.specs.Prelude.{ℕ, suc, ◌+◌, List, [], ◌∷◌, leb, Result, Ok, Err}
 use Rattle.reading.specs.Choice.{require}
 use Rattle.kinds.specs.Table.{written_kind}
 use Rattle.kinds.specs.Shape.{greatest, first_length, whole_blocks, product_of, products_fit, size_within, size_of}
 use Rattle.layout.specs.Padding.{padded}
 use Rattle.layout.specs.declared.Laid.{Laid}
 use Rattle.layout.specs.declared.Placed.{Placed}
-use Rattle.layout.specs.declared.Placed.TheVariants.{At, Refused}
 
 -- what is laid before the first tensor: nothing
 abbrev pub nothing_laid : Laid
@@ -24,16 +23,16 @@ laid_after a laid shape kind = record { total = laid.total + product_of shape; n
 
 -- the place of the next tensor, at the alignment a, of a shape and a kind: the tests in their
 -- order, and what is laid then
-unfoldable pub place_of : ℕ → Laid → List ℕ → ℕ → Placed
+unfoldable pub place_of : ℕ → Laid → List ℕ → ℕ → Result Placed ℕ
 place_of a laid shape kind =
-    require (written_kind kind) (Refused 35)
-    (require (whole_blocks (first_length shape) kind) (Refused 17)
-    (require (products_fit shape) (Refused 13)
-    (require (size_within shape kind) (Refused 14)
-    (require (leb (laid.total + product_of shape) greatest) (Refused 15)
-    (require (leb (end_after laid shape kind) greatest) (Refused 36)
-    (require (leb (padded a (end_after laid shape kind)) greatest) (Refused 36)
-    (At laid.next (size_of shape kind) (laid_after a laid shape kind))))))))
+    require (written_kind kind) (Err 35)
+    (require (whole_blocks (first_length shape) kind) (Err 17)
+    (require (products_fit shape) (Err 13)
+    (require (size_within shape kind) (Err 14)
+    (require (leb (laid.total + product_of shape) greatest) (Err 15)
+    (require (leb (end_after laid shape kind) greatest) (Err 36)
+    (require (leb (padded a (end_after laid shape kind)) greatest) (Err 36)
+    (Ok (record { offset = laid.next; size = size_of shape kind; laid = laid_after a laid shape kind }))))))))
 
 -- a tensor that is to be laid
 pub record Piece : Type 0 where
@@ -52,9 +51,9 @@ ahead offset (laid_out_from offsets laid) = laid_out_from (offset ∷ offsets) l
 ahead offset (refused_at why i) = refused_at why i
 
 -- the answer for the tensor i, and then the rest
-abbrev pub followed_by : Placed → ℕ → (Laid → Layout) → Layout
-followed_by (At offset size laid) i rest = ahead offset (rest laid)
-followed_by (Refused why) i rest = refused_at why i
+abbrev pub followed_by : Result Placed ℕ → ℕ → (Laid → Layout) → Layout
+followed_by (Ok p) i rest = ahead p.offset (rest p.laid)
+followed_by (Err why) i rest = refused_at why i
 
 -- tensors in order, counted from i, after what is laid
 unfoldable pub layout_from : ℕ → Laid → ℕ → List Piece → Layout

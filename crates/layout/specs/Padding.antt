@@ -1,8 +1,6 @@
 -- Multiples, and a number rounded up to one.
-use Rattle.std.specs.Prelude.{ℕ, ◌+◌, ◌-◌, ◌*◌, ◌/◌, ◌%◌, Bool, leb, eqb, if◌then◌else◌}
+use Rattle.std.specs.Prelude.{ℕ, ◌+◌, ◌-◌, ◌*◌, ◌/◌, ◌%◌, Bool, leb, eqb, if◌then◌else◌, Option, Some, None}
 use Rattle.kinds.specs.Shape.{greatest}
-use Rattle.kinds.specs.declared.Bounded.{Bounded}
-use Rattle.kinds.specs.declared.Bounded.TheVariants.{Fits, Over}
 
 -- whether n is a multiple of a
 abbrev pub is_multiple : ℕ → ℕ → Bool
@@ -13,5 +11,5 @@ abbrev pub padded : ℕ → ℕ → ℕ
 padded a n = if eqb a 0 then n else (n + (a - 1)) / a * a
 
 -- what `pad` answers
-abbrev pub padded_of : ℕ → ℕ → Bounded
-padded_of a n = if leb (padded a n) greatest then Fits (padded a n) else Over
+abbrev pub padded_of : ℕ → ℕ → Option ℕ
+padded_of a n = if leb (padded a n) greatest then Some (padded a n) else None

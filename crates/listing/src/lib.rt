@@ -9,6 +9,7 @@ ghost use Rattle.std.specs.Prelude.{◌≡◌, length};
 ghost use Rattle.reading.specs.Back.{bytes_of_all};
 ghost use Rattle.reading.specs.Each.{filled};
 ghost use Rattle.reading.specs.Reading.{seen};
+ghost use Rattle.reading.specs.Replies.{reason_number};
 ghost use Rattle.values.specs.Rows.{entry_row};
 ghost use Rattle.tensors.specs.Rows.{tensor_row};
 ghost use Rattle.reading.specs.Ceilings.{full};
@@ -19,9 +20,9 @@ ghost use Rattle.text_out.specs.Put.{Put};
 ghost use Rattle.listing.specs.Steps as steps;
 ghost use Rattle.listing.specs.Text as text;
 
-use header::{Header, HeaderRead};
-use key_order::{LastKey, NextKey, name_in, next_key};
-use reading::Limits;
+use header::Header;
+use key_order::{name_in, next_key};
+use reading::{Limits, Refusal};
 use rows::{
     DIMENSIONS, EntryRow, FIRST_LENGTH, FOURTH_LENGTH, KEY_LENGTH, KEY_PLACE, KIND, NAME_LENGTH,
     NAME_PLACE, OFFSET, SECOND_LENGTH, SIZE, THIRD_LENGTH, TensorRow, VALUE_TYPE,
@@ -147,21 +148,14 @@ pub fn put_refusal(out: &mut [u8], why: u64, place: usize) -> usize
 fn put_keys(out: &mut [u8], s: &[u8], entries: &[EntryRow]) -> usize
     ensures { Put (bytes_of_all (text.key_line s.now) (ordered s.now entries.now)) out.old out.new result }
 {
-    let mut n: usize = 0;
-    let mut last = LastKey::Start;
-    let mut left = entries.len();
-    while 0 < left {
-        match next_key(s, entries, last) {
-            NextKey::Done => {
-                return n;
-            }
-            NextKey::At { row: i } => {
-                let row = entries[i];
-                n += put_key(&mut out[n..], s, row);
-                last = LastKey::After { row: i };
-            }
-        }
-        left -= 1;
+    let mut n = 0;
+    let mut last = None;
+    for _ in 0..entries.len() {
+        let Some(i) = next_key(s, entries, last) else {
+            return n;
+        };
+        n += put_key(&mut out[n..], s, entries[i]);
+        last = Some(i);
     }
     n
 }
@@ -170,12 +164,9 @@ fn put_keys(out: &mut [u8], s: &[u8], entries: &[EntryRow]) -> usize
 fn put_tensors(out: &mut [u8], s: &[u8], tensors: &[TensorRow]) -> usize
     ensures { Put (bytes_of_all (text.tensor_line s.now) tensors.now) out.old out.new result }
 {
-    let mut n: usize = 0;
-    let mut i: usize = 0;
-    while i < tensors.len() {
-        let row = tensors[i];
-        n += put_tensor(&mut out[n..], s, row);
-        i += 1;
+    let mut n = 0;
+    for row in tensors {
+        n += put_tensor(&mut out[n..], s, *row);
     }
     n
 }
@@ -202,16 +193,12 @@ pub fn list(out: &mut [u8], s: &[u8], entries: &mut [EntryRow], tensors: &mut [T
     ensures entries_after { entries.new ≡ filled entry_row entries.old (seen (λ w. w.entries) (reader_run full 3 entries.old tensors.old s.now)) }
     ensures tensors_after { tensors.new ≡ filled tensor_row tensors.old (seen (λ w. w.tensors) (reader_run full 3 entries.old tensors.old s.now)) }
 {
-    let limits = Limits {
-        versions: 3,
-        kinds: 39,
-    };
-    match header::read(s, limits, 3, entries, tensors) {
-        HeaderRead::Refused { why, place } => put_refusal(out, why, place),
-        HeaderRead::Found { header } => {
+    match header::read(s, Limits::FULL, 3, entries, tensors) {
+        Err(refusal) => put_refusal(out, refusal.why.number(), refusal.place),
+        Ok(header) => {
             let e = header.entries as usize;
             let t = header.tensors as usize;
-            put_all(out, s, header, &entries[0..e], &tensors[0..t])
+            put_all(out, s, header, &entries[..e], &tensors[..t])
         }
     }
 }

@@ -1,5 +1,9 @@
 -- What the answer to the question for a tensor means, in terms of the full reader (ceilings 3 and
 -- 39), whatever its cap and its tables are. Assumes nothing.
+use Rattle.std.proofs.lemmas.Option.{none-some}
+use Rattle.reading.proofs.Sames.{same_some, same_given}
+use Rattle.lookup.specs.declared.TensorSearch.{TensorSearch}
+use Rattle.std.specs.Prelude.{Option, Some, None}
 use Prim.Native.Nat.{ℕ, ◌+◌, ◌≤◌}
 use mathlib.Core.Path.{◌≡◌, refl, sym, ap, subst, ◌∙◌}
 use mathlib.Core.Bool.{Bool, true, false}
@@ -9,6 +13,7 @@ use native.Mathlib.Omega.{arith}
 use lib.Dec.{T}
 use lib.ListN.{length, take, drop, length-map}
 use lib.Seq.{take_at}
+use Rattle.reading.specs.Replies.{Reply, gives, refuses}
 use Rattle.reading.specs.Back.{All, Sure}
 use Rattle.reading.specs.Ceilings.{full}
 use Rattle.reading.specs.Reading.{Answer, accepted, refused, run, seen, final}
@@ -35,9 +40,7 @@ use Rattle.header.proofs.Judged.{sure_judged, low-judged, refuses_judged}
 use Rattle.header.proofs.MoreRows.{ButForSix, more_rows}
 use Rattle.header.proofs.NeverSix.{never-6}
 use Rattle.lookup.specs.Search.{Search, found, none, first_of}
-use Rattle.lookup.specs.Tensors.{first_tensor, tensor_found, tensor_lookup, has_name, row_has_name, Tells, onward, FirstOfName}
-use Rattle.lookup.specs.declared.TensorLookup.{TensorLookup}
-use Rattle.lookup.specs.declared.TensorLookup.TheVariants.{Found, Absent, Refused}
+use Rattle.lookup.specs.Tensors.{searched, first_tensor, tensor_found, tensor_lookup, has_name, row_has_name, Tells, onward, FirstOfName}
 use Rattle.lookup.proofs.FullReader.{record_refusals, Both, refused_both, found_at_first, found_none, both}
 use Rattle.lookup.proofs.SeekLaws.{first-after, first-none, first-map}
 
@@ -54,8 +57,12 @@ last_tests c es ts e s near {m} {p} f =
 never_both : {b : Bool} → b ≡ true → b ≡ false → ⊥
 never_both e f = let z : ◌≡◌ {A = ℕ} 0 1 = cc in omega arith
 
+-- one search of two answers
+same_search : {x y : Option Tensor} {n m : ℕ} → searched x n ≡ searched y m → (x ≡ y) × (n ≡ m)
+same_search e = let z = same_given _ _ e in (ap (λ t. t.tensor) z, ap (λ t. t.passed) z)
+
 -- one refusal of two answers
-same-refusal : {n o m p : ℕ} → ◌≡◌ {A = Answer FullHeader} (refused n o) (refused m p) → Refused n o ≡ Refused m p
+same-refusal : {n o m p : ℕ} → ◌≡◌ {A = Answer FullHeader} (refused n o) (refused m p) → ◌≡◌ {A = Reply TensorSearch} (refuses n o) (refuses m p)
 same-refusal {n = n} {o} {m} {p} e =
     let i : n ≡ m = cc in
     let j : o ≡ p = cc in
@@ -75,25 +82,25 @@ rows_for_any s bytes cap e = never-6 full cap s bytes (low_run full (header enou
 module _ (name s : List ℕ) where
   -- found: the whole reader passes every check up to the end of that tensor, and no earlier one has
   -- the name
-  pub found_first : {t : Tensor} {n : ℕ} → Found t n ≡ tensor_lookup name s → (cap : ℕ) → FirstOfName name s cap t n
+  pub found_first : {t : Tensor} {n : ℕ} → searched (Some t) n ≡ tensor_lookup name s → (cap : ℕ) → FirstOfName name s cap t n
   found_first {t} {n} e cap = by (both name s cap)
     where
       by : Both name s cap → FirstOfName name s cap t n
       by (refused_both m p f g i) = let z : ◌≡◌ {A = ℕ} 0 1 = cc in absurd (omega arith)
       by (found_at_first u m q f h) =
-          let same : Found t n ≡ Found u m = e ∙ ap tensor_found f in
-          let i : t ≡ u = cc in
-          let j : n ≡ m = cc in
+          let same = same_search (e ∙ ap tensor_found f) in
+          let i : t ≡ u = same_some _ _ same.0 in
+          let j : n ≡ m = same.1 in
           rw (i, j) h
-      by (found_none m q f h) = let z : ◌≡◌ {A = ℕ} 0 1 = cc in absurd (omega arith)
+      by (found_none m q f h) = absurd (none-some t (sym (same_search (e ∙ ap tensor_found f)).0))
 
   -- refused: so is the whole reader, the same
-  pub refused-whole : {n p : ℕ} → Refused n p ≡ tensor_lookup name s → (cap : ℕ) → run (header enough cap) s 0 ≡ refused n p
+  pub refused-whole : {n p : ℕ} → refuses n p ≡ tensor_lookup name s → (cap : ℕ) → run (header enough cap) s 0 ≡ refused n p
   refused-whole {n} {p} e cap = by (both name s cap)
     where
       by : Both name s cap → run (header enough cap) s 0 ≡ refused n p
       by (refused_both m o f g k) =
-          let same : Refused n p ≡ Refused m o = e ∙ ap tensor_found f in
+          let same : refuses n p ≡ refuses m o = e ∙ ap tensor_found f in
           let i : n ≡ m = cc in
           let j : p ≡ o = cc in
           rw (i, j) g
@@ -101,12 +108,12 @@ module _ (name s : List ℕ) where
       by (found_none m q f h) = let z : ◌≡◌ {A = ℕ} 0 1 = cc in absurd (omega arith)
 
   -- a refusal is none of the last tests
-  pub refused-listed : {n p : ℕ} → Refused n p ≡ tensor_lookup name s → OneOf record_refusals s n p
+  pub refused-listed : {n p : ℕ} → refuses n p ≡ tensor_lookup name s → OneOf record_refusals s n p
   refused-listed {n} {p} e = by (both name s 3)
     where
       by : Both name s 3 → OneOf record_refusals s n p
       by (refused_both m o f g k) =
-          let same : Refused n p ≡ Refused m o = e ∙ ap tensor_found f in
+          let same : refuses n p ≡ refuses m o = e ∙ ap tensor_found f in
           let i : n ≡ m = cc in
           let j : p ≡ o = cc in
           rw (i, j) k
@@ -114,28 +121,28 @@ module _ (name s : List ℕ) where
       by (found_none m q f h) = let z : ◌≡◌ {A = ℕ} 0 1 = cc in absurd (omega arith)
 
   -- nor is it 6
-  pub tensor-never-6 : All Byte s → {p : ℕ} → Refused 6 p ≡ tensor_lookup name s → ⊥
+  pub tensor-never-6 : All Byte s → {p : ℕ} → refuses 6 p ≡ tensor_lookup name s → ⊥
   tensor-never-6 bytes e = rows_for_any s bytes 3 (refused-whole e 3)
 
   -- absent: the whole reader accepts, or refuses by one of its last tests
-  pub absent_whole : {n : ℕ} → Absent n ≡ tensor_lookup name s → (cap : ℕ) {m p : ℕ} → run (header enough cap) s 0 ≡ refused m p → is_one_of m (16 ∷ 18 ∷ []) ≡ true
+  pub absent_whole : {n : ℕ} → searched None n ≡ tensor_lookup name s → (cap : ℕ) {m p : ℕ} → run (header enough cap) s 0 ≡ refused m p → is_one_of m (16 ∷ 18 ∷ []) ≡ true
   absent_whole e cap {m} {p} r = by (both name s cap)
     where
       by : Both name s cap → is_one_of m (16 ∷ 18 ∷ []) ≡ true
       by (refused_both k o f g i) = let z : ◌≡◌ {A = ℕ} 0 1 = cc in absurd (omega arith)
-      by (found_at_first u k q f h) = let z : ◌≡◌ {A = ℕ} 0 1 = cc in absurd (omega arith)
+      by (found_at_first u k q f h) = absurd (none-some u (same_search (e ∙ ap tensor_found f)).0)
       by (found_none k q f h) = last_tests h.c h.es h.ts q s (omega (arith, inside (first_tensor name) s 0 (sym f))) (sym r ∙ h.after)
 
   -- What more bytes may change: nothing, once the answer is any other than refusal 1.
 
-  stays_by : (t : List ℕ) (r : Answer (Search Tensor)) → r ≡ run (first_tensor name) s 0 → ((p : ℕ) → tensor_found r ≡ Refused 1 p → ⊥) → T (final r)
+  stays_by : (t : List ℕ) (r : Answer (Search Tensor)) → r ≡ run (first_tensor name) s 0 → ((p : ℕ) → tensor_found r ≡ refuses 1 p → ⊥) → T (final r)
   stays_by t (accepted (found u n) q) e other = tt
   stays_by t (accepted (none n) q) e other = tt
-  stays_by t (refused n p) e other = other_than-1 {A = Search Tensor} (refused n p) refl (λ one. other p (ap (λ m. Refused m p) one))
+  stays_by t (refused n p) e other = other_than-1 {A = Search Tensor} (refused n p) refl (λ one. other p (ap (λ m. refuses m p) one))
 
   -- `find_tensor`: the tensor with its number, 'absent' with the number of all, or a refusal other
   -- than 1, is the same
-  pub tensor-stays : (t : List ℕ) → ((p : ℕ) → tensor_lookup name s ≡ Refused 1 p → ⊥) → tensor_lookup name (s ++ t) ≡ tensor_lookup name s
+  pub tensor-stays : (t : List ℕ) → ((p : ℕ) → tensor_lookup name s ≡ refuses 1 p → ⊥) → tensor_lookup name (s ++ t) ≡ tensor_lookup name s
   tensor-stays t other = ap tensor_found (stable (first_tensor name) s t 0 (stays_by t (run (first_tensor name) s 0) refl other))
 
 -- The full reader with tables. 'Rows enough' are those with which it does not refuse 6.
@@ -172,11 +179,11 @@ module _ (s : List ℕ) (bytes : All Byte s) (cap : ℕ) (es ts : List (List ℕ
     sure_onward c l us n e = sure_then whatever (λ more q u. sure_here _ (sure_judged c l (us ++ more) q (λ tested. (more, refl))))
 
     tells_found : (before : List Tensor) (t : Tensor) (n : ℕ) → n ≡ length before + 1 → All (λ (u : Tensor). has_name name s u ≡ false) before → has_name name s t ≡ true
-        → {l : List Tensor} (more : List Tensor) → l ≡ (before ++ (t ∷ [])) ++ more → Tells (Found t n) (first_of (row_has_name name s) 0 (map tensor_row l))
+        → {l : List Tensor} (more : List Tensor) → l ≡ (before ++ (t ∷ [])) ++ more → Tells (searched (Some t) n) (first_of (row_has_name name s) 0 (map tensor_row l))
     tells_found before t n number others has more e =
         rw (e, first-map tensor_row (row_has_name name s) ((before ++ (t ∷ [])) ++ more) 0, first-after (has_name name s) before t more 0 others has) (refl, omega (arith, number))
 
-    tells_none : (n : ℕ) (l : List Tensor) → n ≡ length l → All (λ (u : Tensor). has_name name s u ≡ false) l → Tells (Absent n) (first_of (row_has_name name s) 0 (map tensor_row l))
+    tells_none : (n : ℕ) (l : List Tensor) → n ≡ length l → All (λ (u : Tensor). has_name name s u ≡ false) l → Tells (searched None n) (first_of (row_has_name name s) 0 (map tensor_row l))
     tells_none n l number others =
         rw (first-map tensor_row (row_has_name name s) l 0, first-none (has_name name s) l 0 others) (omega (arith, number))
 
@@ -208,21 +215,24 @@ module _ (s : List ℕ) (bytes : All Byte s) (cap : ℕ) (es ts : List (List ℕ
     -- Where none is found: its refusal, unless that is 16 or 18 (or 6), or 'absent'.
 
     -- a refusal is its own
-    pub refused_reader : {n p : ℕ} → Refused n p ≡ tensor_lookup name s → ((o : ℕ) → (reader_outcome full cap es ts s).answer ≡ refused 6 o → ⊥) → (reader_outcome full cap es ts s).answer ≡ refused n p
+    pub refused_reader : {n p : ℕ} → refuses n p ≡ tensor_lookup name s → ((o : ℕ) → (reader_outcome full cap es ts s).answer ≡ refused 6 o → ⊥) → (reader_outcome full cap es ts s).answer ≡ refused n p
     refused_reader e fits = refused-told cap es ts s (with_rows fits ∙ refused-whole name s e cap)
 
     -- at 'absent' it accepts, or refuses 16 or 18 (or 6)
-    pub absent_reader : {n : ℕ} → Absent n ≡ tensor_lookup name s → {m p : ℕ} → (reader_outcome full cap es ts s).answer ≡ refused m p → (m ≡ 6 → ⊥) → is_one_of m (16 ∷ 18 ∷ []) ≡ true
+    pub absent_reader : {n : ℕ} → searched None n ≡ tensor_lookup name s → {m p : ℕ} → (reader_outcome full cap es ts s).answer ≡ refused m p → (m ≡ 6 → ⊥) → is_one_of m (16 ∷ 18 ∷ []) ≡ true
     absent_reader e r rows = absent_whole name s e cap (whole-refused r rows)
 
     -- so any other refusal of its own is the answer
-    pub none_found : {m p : ℕ} → (reader_outcome full cap es ts s).answer ≡ refused m p → is_one_of m (6 ∷ 16 ∷ 18 ∷ []) ≡ false → ((t : Tensor) (n : ℕ) → tensor_lookup name s ≡ Found t n → ⊥) → tensor_lookup name s ≡ Refused m p
+    pub none_found : {m p : ℕ} → (reader_outcome full cap es ts s).answer ≡ refused m p → is_one_of m (6 ∷ 16 ∷ 18 ∷ []) ≡ false → ((t : Tensor) (n : ℕ) → tensor_lookup name s ≡ searched (Some t) n → ⊥) → tensor_lookup name s ≡ refuses m p
     none_found {m} {p} e other never = by (tensor_lookup name s) refl
       where
         rows : m ≡ 6 → ⊥
         rows i = never_both refl (subst (λ x. is_one_of x (6 ∷ 16 ∷ 18 ∷ []) ≡ false) i other)
 
-        by : (l : TensorLookup) → l ≡ tensor_lookup name s → l ≡ Refused m p
-        by (Found t n) f = absurd (never t n (sym f))
-        by (Absent n) f = absurd (never_both (listed_too m (16 ∷ 18 ∷ []) (6 ∷ 16 ∷ 18 ∷ []) refl (absent_reader f e rows)) other)
-        by (Refused n o) f = same-refusal (sym (refused-whole name s f cap) ∙ whole-refused e rows)
+        by_tensor : (x : Option Tensor) (n : ℕ) → searched x n ≡ tensor_lookup name s → searched x n ≡ refuses m p
+        by_tensor (Some t) n f = absurd (never t n (sym f))
+        by_tensor None n f = absurd (never_both (listed_too m (16 ∷ 18 ∷ []) (6 ∷ 16 ∷ 18 ∷ []) refl (absent_reader f e rows)) other)
+
+        by : (l : Reply TensorSearch) → l ≡ tensor_lookup name s → l ≡ refuses m p
+        by (gives x) f = by_tensor x.tensor x.passed f
+        by (refuses n o) f = same-refusal (sym (refused-whole name s f cap) ∙ whole-refused e rows)

@@ -3,7 +3,7 @@
 --
 -- The program is the header's own up to that tensor. It has no rows, so that no count is refused,
 -- and it ends there: what the header's last tests refuse (16, 18), it does not.
-use Rattle.std.specs.Prelude.{ℕ, suc, ◌+◌, ◌≡◌, Bool, true, false, List, [], ◌∷◌, ◌++◌, length, take, drop}
+use Rattle.std.specs.Prelude.{ℕ, suc, ◌+◌, ◌≡◌, Bool, true, false, List, [], ◌∷◌, ◌++◌, length, take, drop, Option, Some, None}
 use Rattle.reading.specs.Back.{All}
 use Rattle.reading.specs.Each.{each, times, fold}
 use Rattle.reading.specs.Reading.{Reading, done, Answer, accepted, refused, run, ◌>>=◌, here}
@@ -19,9 +19,9 @@ use Rattle.tensors.specs.declared.Tensor.{Tensor}
 use Rattle.start.specs.Format.{start, enough}
 use Rattle.start.specs.declared.Start.{Start}
 use Rattle.header.specs.Format.{FullHeader, judged, header}
+use Rattle.reading.specs.Replies.{Reply, gives, refuses}
+use Rattle.lookup.specs.declared.TensorSearch.{TensorSearch}
 use Rattle.lookup.specs.Search.{Search, found, none, Looked, seek}
-use Rattle.lookup.specs.declared.TensorLookup.{TensorLookup}
-use Rattle.lookup.specs.declared.TensorLookup.TheVariants.{Found, Absent, Refused}
 
 -- where a text is, and whether it is the name that is asked for: one byte more than that has tells
 unfoldable pub looked_name : List ℕ → Dialect → Reading (Looked Span)
@@ -50,15 +50,19 @@ first_tensor name = do
   es ← times c.entries (entry c.dialect 3)
   seek (looked_tensor name c.dialect) total_of c.tensors 0 0
 
+-- a tensor, or none, and the number of tensors that were passed
+abbrev pub searched : Option Tensor → ℕ → Reply TensorSearch
+searched t n = gives (record { tensor = t; passed = n })
+
 -- the tensor and the number of tensors that were passed, or that none has the name and the number of
 -- all, or the refusal
-abbrev pub tensor_found : Answer (Search Tensor) → TensorLookup
-tensor_found (accepted (found t n) q) = Found t n
-tensor_found (accepted (none n) q) = Absent n
-tensor_found (refused n p) = Refused n p
+abbrev pub tensor_found : Answer (Search Tensor) → Reply TensorSearch
+tensor_found (accepted (found t n) q) = searched (Some t) n
+tensor_found (accepted (none n) q) = searched None n
+tensor_found (refused n p) = refuses n p
 
 -- the answer to the question for a name
-abbrev pub tensor_lookup : List ℕ → List ℕ → TensorLookup
+abbrev pub tensor_lookup : List ℕ → List ℕ → Reply TensorSearch
 tensor_lookup name s = tensor_found (run (first_tensor name) s 0)
 
 -- What that is, in terms of the whole reader.
@@ -71,14 +75,18 @@ has_name name s t = is_word name (bytes_at s t.name)
 abbrev pub row_has_name : List ℕ → List ℕ → List ℕ → Bool
 row_has_name name s row = is_word name (take (length_in row) (drop (place_in row) s))
 
--- an answer tells what a search through rows comes to: the same ten words, or none; and the same
--- number
-abbrev pub Tells : TensorLookup → Search (List ℕ) → Type 0
-Tells (Found t n) (found row m) = (tensor_row t ≡ row) × (n ≡ m)
-Tells (Found t n) (none m) = ⊥
-Tells (Absent n) (found row m) = ⊥
-Tells (Absent n) (none m) = n ≡ m
-Tells (Refused n p) r = ⊥
+-- a tensor, or none, and a number tell what a search through rows comes to: the same ten words, or
+-- none; and the same number
+abbrev pub SearchTells : Option Tensor → ℕ → Search (List ℕ) → Type 0
+SearchTells (Some t) n (found row m) = (tensor_row t ≡ row) × (n ≡ m)
+SearchTells (Some t) n (none m) = ⊥
+SearchTells None n (found row m) = ⊥
+SearchTells None n (none m) = n ≡ m
+
+-- an answer that is no refusal does
+abbrev pub Tells : Reply TensorSearch → Search (List ℕ) → Type 0
+Tells (gives x) r = SearchTells x.tensor x.passed r
+Tells (refuses n p) r = ⊥
 
 -- what is left of a header's program once the start, the entries and some tensors were read: n
 -- tensors more, and the last tests

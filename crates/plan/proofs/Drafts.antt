@@ -1,6 +1,7 @@
 -- What a draft tells of a sheet that is well formed: its lists, how long its header is, and what
 -- the tests of the counts and of the room say of it. Assumes nothing.
-use Rattle.std.specs.Prelude.{if◌then◌else◌}
+use Rattle.reading.specs.Replies.{gives, refuses}
+use Rattle.std.specs.Prelude.{if◌then◌else◌, Some, None}
 use Prim.Native.Nat.{ℕ, ◌+◌, ◌-◌, ◌≤◌, ◌<◌}
 use mathlib.Core.Path.{◌≡◌, refl, sym, ap, subst, ◌∙◌}
 use mathlib.Core.Bool.{Bool, true, false}
@@ -25,8 +26,6 @@ use Rattle.sheet.specs.Format.{SheetEntry, metadata, tensor}
 use Rattle.sheet.specs.Sheet.{Records, sheet_of}
 use Rattle.sheet.proofs.WholeSheet.{sheet_entries, sheet_tensors}
 use Rattle.plan.specs.declared.Draft.{Draft}
-use Rattle.plan.specs.declared.Room.TheVariants.{Left, Over}
-use Rattle.plan.specs.declared.Planned.TheVariants.{Fine, Refused}
 use Rattle.plan.specs.Header.{own_alignment, adds, alignment_entry, inserted, entry_in, entries_with, entries_of, laid_from, header_contents, end_of, start_of, records_in}
 use Rattle.plan.specs.Plan.{draft_with, draft_of}
 use Rattle.plan.specs.Steps.{roomed, taken_from}
@@ -107,17 +106,17 @@ module _ (s : List ℕ) (whole : is_accepted (sheet_of s) ≡ true) where
 
     -- what its header leaves of a room, where x is what the added entry takes
     pub header_taken : (k : Dialect) (room a : ℕ) → d.adds ≡ adds a (own_alignment (records_in (sheet_of s)).entries) → {x : ℕ} → x ≡ (if d.adds then size_width k + 25 else 0)
-        → taken_from (taken_from (taken_from (Left room) (8 + size_width k + size_width k + x)) (length (bytes_of_all (entry_bytes k) (map entry_in (got (run (times d.entries metadata) s 1))))))
+        → taken_from (taken_from (taken_from (Some room) (8 + size_width k + size_width k + x)) (length (bytes_of_all (entry_bytes k) (map entry_in (got (run (times d.entries metadata) s 1))))))
         (length (bytes_of_all (tensor_bytes k) (laid_from a nothing_laid (got (run (times d.tensors tensor) s d.first)))))
-        ≡ taken_from (Left room) (end_of k a (records_in (sheet_of s)))
+        ≡ taken_from (Some room) (end_of k a (records_in (sheet_of s)))
     header_taken k room a adding {x} extra =
         let w = size_width k in
         let more : x ≡ (if adds a (own_alignment (records_in (sheet_of s)).entries) then w + 25 else 0) = extra ∙ ap (λ t. if t then w + 25 else 0) adding in
-        taken_thrice (Left room) _ _ _
-        ∙ ap (λ l. taken_from (Left room) (8 + w + w + x + length (bytes_of_all (entry_bytes k) (map entry_in l)) + length (bytes_of_all (tensor_bytes k) (laid_from a nothing_laid (got (run (times d.tensors tensor) s d.first)))))) entries-got
-        ∙ ap (λ l. taken_from (Left room) (8 + w + w + x + length (bytes_of_all (entry_bytes k) (map entry_in (records_in (sheet_of s)).entries)) + length (bytes_of_all (tensor_bytes k) (laid_from a nothing_laid l)))) tensors-got
-        ∙ ap (λ y. taken_from (Left room) (8 + w + w + y + length (bytes_of_all (entry_bytes k) (map entry_in (records_in (sheet_of s)).entries)) + length (bytes_of_all (tensor_bytes k) (laid_from a nothing_laid (records_in (sheet_of s)).tensors)))) more
-        ∙ ap (taken_from (Left room)) (end-length k a (records_in (sheet_of s)))
+        taken_thrice (Some room) _ _ _
+        ∙ ap (λ l. taken_from (Some room) (8 + w + w + x + length (bytes_of_all (entry_bytes k) (map entry_in l)) + length (bytes_of_all (tensor_bytes k) (laid_from a nothing_laid (got (run (times d.tensors tensor) s d.first)))))) entries-got
+        ∙ ap (λ l. taken_from (Some room) (8 + w + w + x + length (bytes_of_all (entry_bytes k) (map entry_in (records_in (sheet_of s)).entries)) + length (bytes_of_all (tensor_bytes k) (laid_from a nothing_laid l)))) tensors-got
+        ∙ ap (λ y. taken_from (Some room) (8 + w + w + y + length (bytes_of_all (entry_bytes k) (map entry_in (records_in (sheet_of s)).entries)) + length (bytes_of_all (tensor_bytes k) (laid_from a nothing_laid (records_in (sheet_of s)).tensors)))) more
+        ∙ ap (taken_from (Some room)) (end-length k a (records_in (sheet_of s)))
 
 -- a draft by its own word of the alignment
 pub draft-with : (c : Records) {d : Draft} {b : Bool} → d ≡ draft_with b c → d ≡ draft_with d.adds c
@@ -135,11 +134,11 @@ padded-not-below a n = by (eqb a 0) refl
         let h = eqb-false a 0 e in
         padded-above a (omega arith) n
 
-left_cases : (b : Bool) (n : ℕ) {m : ℕ} → Left m ≡ (if b then Left n else Over) → (b ≡ true) × (m ≡ n)
+left_cases : (b : Bool) (n : ℕ) {m : ℕ} → Some m ≡ (if b then Some n else None) → (b ≡ true) × (m ≡ n)
 left_cases true n e = (refl, cc)
 left_cases false n e = let z : ◌≡◌ {A = ℕ} 0 1 = cc in absurd (omega arith)
 
-over_cases : (b : Bool) (n : ℕ) → Over ≡ (if b then Left n else Over) → b ≡ false
+over_cases : (b : Bool) (n : ℕ) → None ≡ (if b then Some n else None) → b ≡ false
 over_cases true n e = let z : ◌≡◌ {A = ℕ} 0 1 = cc in absurd (omega arith)
 over_cases false n e = refl
 
@@ -149,7 +148,7 @@ pub record Taken (room n left : ℕ) : Type 0 where
   pub less : left ≤ room
   pub back : room - left ≡ n
 
-pub left_taken : {room n m : ℕ} → Left m ≡ taken_from (Left room) n → Taken room n m
+pub left_taken : {room n m : ℕ} → Some m ≡ taken_from (Some room) n → Taken room n m
 unfolding taken_from
 left_taken {room} {n} {m} e =
     let h = left_cases (leb n room) (room - n) e in
@@ -157,17 +156,17 @@ left_taken {room} {n} {m} e =
     let j : m ≡ room - n = h.1 in
     record { fits = i; less = omega arith; back = omega arith }
 
-pub over_taken : {room n : ℕ} → Over ≡ taken_from (Left room) n → room < n
+pub over_taken : {room n : ℕ} → None ≡ taken_from (Some room) n → room < n
 unfolding taken_from
 over_taken {room} {n} e = leb-false _ _ (over_cases (leb n room) (room - n) e)
 
 module _ (k : Dialect) (a room : ℕ) (c : Records) where
-  pub no_room : room < start_of k a c → Refused 38 0 ≡ roomed k a room c
+  pub no_room : room < start_of k a c → refuses 38 0 ≡ roomed k a room c
   no_room h = rw (lt-leb (start_of k a c) room h)
 
-  pub enough-room : {d : Draft} {e t : ℕ} → d ≡ draft_of a c → e ≡ end_of k a c → t ≡ start_of k a c → t ≤ room → Fine (record { draft = d; end = e; start = t }) ≡ roomed k a room c
+  pub enough-room : {d : Draft} {e t : ℕ} → d ≡ draft_of a c → e ≡ end_of k a c → t ≡ start_of k a c → t ≤ room → gives (record { draft = d; end = e; start = t }) ≡ roomed k a room c
   enough-room {d} {e} {t} f g i h =
-      ap (λ y. Fine (record { draft = y; end = e; start = t })) f
-      ∙ ap (λ y. Fine (record { draft = draft_of a c; end = y; start = t })) g
-      ∙ ap (λ y. Fine (record { draft = draft_of a c; end = end_of k a c; start = y })) i
+      ap (λ y. gives (record { draft = y; end = e; start = t })) f
+      ∙ ap (λ y. gives (record { draft = draft_of a c; end = y; start = t })) g
+      ∙ ap (λ y. gives (record { draft = draft_of a c; end = end_of k a c; start = y })) i
       ∙ rw (le-leb (start_of k a c) room (subst (λ y. y ≤ room) i h))

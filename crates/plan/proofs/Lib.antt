@@ -1,3 +1,4 @@
+pub mod Mapped
 pub mod Rooms
 pub mod Counts
 pub mod PartLengths

@@ -1,6 +1,7 @@
 -- The turns of loops over a sheet's entries and its tensors, which are all there: what is taken
 -- from a room, what is said of the alignment, and what is laid. Assumes nothing.
-use Rattle.std.specs.Prelude.{if◌then◌else◌}
+use Rattle.reading.specs.Replies.{gives, refuses}
+use Rattle.std.specs.Prelude.{if◌then◌else◌, Option, Some, None, Ok, Err}
 use Prim.Native.Nat.{ℕ, suc, ◌+◌, ◌-◌, ◌*◌, ◌≤◌, ◌<◌}
 use mathlib.Core.Path.{◌≡◌, refl, sym, ap, subst, ◌∙◌}
 use mathlib.Core.Bool.{true}
@@ -15,7 +16,6 @@ use Rattle.reading.specs.Reading.{Reading, accepted, run, is_accepted}
 use Rattle.reading.proofs.SureLaws.{sure_then, sure_done, sure_check, sure_so, whatever}
 use Rattle.reading.proofs.Repetition.{times-ends, times-never, times-accepted, times-got}
 use Rattle.layout.specs.declared.Laid.{Laid}
-use Rattle.layout.specs.declared.Placed.TheVariants.{At, Refused}
 use Rattle.layout.specs.Layout.{Layout, laid_out_from, refused_at, ahead, nothing_laid, place_of, layout_from}
 use Rattle.layout.proofs.Places.{layout_end, layout_stops, layout_goes_on}
 use Rattle.values.specs.declared.Dialect.{Dialect}
@@ -27,17 +27,11 @@ use Rattle.values.proofs.Texts.{bytes-length}
 use Rattle.header.specs.Contents.{content_alignment}
 use Rattle.sheet.specs.declared.EntryParts.{EntryParts}
 use Rattle.sheet.specs.declared.TensorParts.{TensorParts}
-use Rattle.sheet.specs.declared.EntryFound.TheVariants.{Found as FoundEntry}
-use Rattle.sheet.specs.declared.TensorFound.TheVariants.{Found as FoundTensor, Bad as NoTensor}
 use Rattle.sheet.specs.Format.{value, SheetEntry, metadata, shape, SheetTensor, tensor_body, tensor}
 use Rattle.sheet.specs.Sheet.{entry_of, tensor_of}
 use Rattle.sheet.proofs.BackFromAnswers.{entry_yes, tensor_no, tensor_yes, next-there}
 use Rattle.sheet.proofs.PartsFound.{entry-told, tensor-told, sure_framed}
 use Rattle.sheet.proofs.ManyEntries.{key-stands}
-use Rattle.plan.specs.declared.Room.{Room}
-use Rattle.plan.specs.declared.OwnAlignment.{OwnAlignment}
-use Rattle.plan.specs.declared.OwnAlignment.TheVariants.{Own}
-use Rattle.plan.specs.declared.LaidOut.TheVariants.{Fits, Refused as NotLaid}
 use Rattle.plan.specs.Header.{own_alignment_with, entry_in, piece_of, content_at, laid_with, laid_from}
 use Rattle.plan.specs.Plan.{laid_of}
 use Rattle.plan.specs.Steps.{taken_from, content_read}
@@ -61,7 +55,7 @@ module _ (s : List ℕ) (at n i : ℕ) (below : i < n) (all : is_accepted (run (
   pub entry_here : is_accepted (run metadata s at) ≡ true
   entry_here = next-there metadata s at n i below all
 
-  module _ {x : EntryParts} {q : ℕ} (found : FoundEntry x q ≡ entry_of (run metadata s at)) where
+  module _ {x : EntryParts} {q : ℕ} (found : Some (x, q) ≡ entry_of (run metadata s at)) where
     abbrev pub line : SheetEntry
     line = (entry_yes (run metadata s at) found).what
 
@@ -88,7 +82,7 @@ module _ (s : List ℕ) (at n i : ℕ) (below : i < n) (all : is_accepted (run (
         let t = entry-told s at read in
         sym (ap length t.key) ∙ bytes-length s line.parts.key t.there ∙ ap (λ (y : EntryParts). y.key.len) (sym parts)
 
-    pub entry_taken : (k : Dialect) (r : Room) → taken_from r (entries_length k (n - i) s at)
+    pub entry_taken : (k : Dialect) (r : Option ℕ) → taken_from r (entries_length k (n - i) s at)
         ≡ taken_from (taken_from r (size_width k + 4 + x.key.len + length (value_bytes (suc depth) k (content_read (run (value q x.form) s x.value))))) (entries_length k (n - (i + 1)) s q)
     entry_taken k r =
         let e : length (entry_bytes k line.content) ≡ size_width k + 4 + x.key.len + length (value_bytes (suc depth) k (content_read (run (value q x.form) s x.value))) =
@@ -98,8 +92,8 @@ module _ (s : List ℕ) (at n i : ℕ) (below : i < n) (all : is_accepted (run (
         let size : List SheetEntry → ℕ = λ l. length (bytes_of_all (entry_bytes k) (map entry_in l)) in
         room-turn size metadata s at n i r below all read _ (λ l. rows_more (entry_bytes k) line.content (map entry_in l) ∙ ap (λ y. y + size l) e)
 
-    pub entry-said : (z : OwnAlignment) → fold own_alignment_with z (got (run (times (n - i) metadata) s at))
-        ≡ fold own_alignment_with (if is_word alignment_key (inside_of s x.key) then Own (content_alignment (content_read (run (value q x.form) s x.value))) else z) (got (run (times (n - (i + 1)) metadata) s q))
+    pub entry-said : (z : Option ℕ) → fold own_alignment_with z (got (run (times (n - i) metadata) s at))
+        ≡ fold own_alignment_with (if is_word alignment_key (inside_of s x.key) then Some (content_alignment (content_read (run (value q x.form) s x.value))) else z) (got (run (times (n - (i + 1)) metadata) s q))
     entry-said z = rw (key-there, heard_one entry_value, left)
 
 -- a tensor has no more than four dimensions
@@ -137,10 +131,10 @@ laid-ahead o (laid_out_from offsets laid) = refl
 laid-ahead o (refused_at why i) = refl
 
 module _ (s : List ℕ) (at n i : ℕ) (below : i < n) (all : is_accepted (run (times (n - i) tensor) s at) ≡ true) where
-  pub tensor-never : NoTensor ≡ tensor_of (run tensor s at) → ⊥
+  pub tensor-never : None ≡ tensor_of (run tensor s at) → ⊥
   tensor-never e = times-never tensor s at n i below (tensor_no (run tensor s at) e).is all
 
-  module _ {x : TensorParts} {q : ℕ} (found : FoundTensor x q ≡ tensor_of (run tensor s at)) where
+  module _ {x : TensorParts} {q : ℕ} (found : Some (x, q) ≡ tensor_of (run tensor s at)) where
     abbrev pub one : SheetTensor
     one = (tensor_yes (run tensor s at) found).what
 
@@ -170,17 +164,17 @@ module _ (s : List ℕ) (at n i : ℕ) (below : i < n) (all : is_accepted (run (
         ∙ ap (λ y. size_width k + 16 + 8 * one.parts.shape.dimensions + y) name-length
         ∙ ap (λ (y : TensorParts). size_width k + 16 + 8 * y.shape.dimensions + x.name.len) (sym one-parts)
 
-    pub tensor_taken : (k : Dialect) (r : Room) → taken_from r (tensors_length k (n - i) s at)
+    pub tensor_taken : (k : Dialect) (r : Option ℕ) → taken_from r (tensors_length k (n - i) s at)
         ≡ taken_from (taken_from r (size_width k + 16 + 8 * x.shape.dimensions + x.name.len)) (tensors_length k (n - (i + 1)) s q)
     tensor_taken k r =
         let size : List SheetTensor → ℕ = λ l. length (bytes_of_all (tensor_bytes k) (laid_from 0 nothing_laid l)) in
         room-turn size tensor s at n i r below all one-read _ (λ l. rows_more (tensor_bytes k) (content_at one 0) _ ∙ rw (one-length k, any_offsets k 0 0 (laid_with 0 nothing_laid one) nothing_laid l))
 
     module _ (a : ℕ) (laid : Laid) where
-      pub laid-stops : {w : ℕ} → place_of a laid (lengths x.shape) x.kind ≡ Refused w → laid_of (layout_from a laid i (map piece_of (got (run (times (n - i) tensor) s at)))) ≡ NotLaid w i
+      pub laid-stops : {w : ℕ} → place_of a laid (lengths x.shape) x.kind ≡ Err w → laid_of (layout_from a laid i (map piece_of (got (run (times (n - i) tensor) s at)))) ≡ refuses w i
       laid-stops e = rw (ones_left, layout_stops a laid i (piece_of one) _ (rw one-parts at e))
 
-      pub laid_goes_on : {o z : ℕ} {after : Laid} → place_of a laid (lengths x.shape) x.kind ≡ At o z after
+      pub laid_goes_on : {o z : ℕ} {after : Laid} → place_of a laid (lengths x.shape) x.kind ≡ Ok (record { offset = o; size = z; laid = after })
           → laid_of (layout_from a laid i (map piece_of (got (run (times (n - i) tensor) s at)))) ≡ laid_of (layout_from a after (i + 1) (map piece_of (got (run (times (n - (i + 1)) tensor) s q))))
       laid_goes_on {o} {z} {after} e =
           let rest = map piece_of (got (run (times (n - (i + 1)) tensor) s q)) in
@@ -189,11 +183,11 @@ module _ (s : List ℕ) (at n i : ℕ) (below : i < n) (all : is_accepted (run (
           ∙ laid-ahead o (layout_from a after (suc i) rest)
           ∙ ap (λ j. laid_of (layout_from a after j rest)) (sym (add-one i))
 
-pub laid-ends : (a : ℕ) (laid : Laid) (s : List ℕ) (at n i : ℕ) → n ≤ i → laid_of (layout_from a laid i (map piece_of (got (run (times (n - i) tensor) s at)))) ≡ Fits
+pub laid-ends : (a : ℕ) (laid : Laid) (s : List ℕ) (at n i : ℕ) → n ≤ i → laid_of (layout_from a laid i (map piece_of (got (run (times (n - i) tensor) s at)))) ≡ gives tt
 laid-ends a laid s at n i h = rw (got-ends tensor s at n i h, layout_end a laid i)
 
 -- where nothing is left, nothing more is taken
-module _ (k : Dialect) (r : Room) (s : List ℕ) (at n i : ℕ) (done : n ≤ i) where
+module _ (k : Dialect) (r : Option ℕ) (s : List ℕ) (at n i : ℕ) (done : n ≤ i) where
   pub entries-ends : taken_from r (entries_length k (n - i) s at) ≡ r
   entries-ends = room-end (λ l. length (bytes_of_all (entry_bytes k) (map entry_in l))) metadata s at n i r (rows_none (entry_bytes k)) done
 

@@ -1,6 +1,6 @@
 -- How long values of a sheet are as values of a header, from the places between which they stand:
 -- their items are not looked at. Assumes nothing.
-use Rattle.std.specs.Prelude.{if◌then◌else◌}
+use Rattle.std.specs.Prelude.{if◌then◌else◌, Some}
 use Prim.Native.Nat.{ℕ, zero, suc, ◌+◌, ◌-◌, ◌*◌, ◌≤◌}
 use mathlib.Core.Path.{◌≡◌, refl, sym, ap, ◌∙◌}
 use mathlib.Core.Bool.{true, false}
@@ -24,7 +24,6 @@ use Rattle.values.specs.Contents.{ValueContent, a_scalar, a_text, value_bytes}
 use Rattle.values.proofs.Texts.{bytes-length}
 use Rattle.header.specs.Contents.{content_alignment}
 use Rattle.sheet.specs.Format.{Text, scalar, item_type, array, item, value}
-use Rattle.sheet.specs.declared.Stepped.TheVariants.{To}
 use Rattle.sheet.proofs.SheetItems.{has_width, has-none, value-array}
 use Rattle.sheet.proofs.BackFromAnswers.{step_yes}
 use Rattle.sheet.proofs.PartsFound.{TextTold, scalar-told, sure_text_of, sure_text, onward}
@@ -107,7 +106,7 @@ module _ (s : List ℕ) where
         (λ j. sure_if (eqb t 9) _ _ (λ i. record { holds = λ c q h other. absurd (other (eqb-true t 9 i)) }) (λ j. sure_refuse)))
 
   -- an array of items that are no arrays
-  pub array_measure : (d : ℕ) (k : Dialect) (at : ℕ) {e t n q : ℕ} → To e ≡ step_of (run (array d (item d)) s at) → ArraySaid (item 1 t) (value_bytes 1 k) d k s at t n q → Measured d k s at e t n q
+  pub array_measure : (d : ℕ) (k : Dialect) (at : ℕ) {e t n q : ℕ} → Some e ≡ step_of (run (array d (item d)) s at) → ArraySaid (item 1 t) (value_bytes 1 k) d k s at t n q → Measured d k s at e t n q
   array_measure d k at {e} {t} {n} {q} there said =
       let r = step_yes (run (times n (item 1 t)) s q) (there ∙ sym said.ends) in
       let m = (items_measure k n t q).holds r.what e r.is in
@@ -164,7 +163,7 @@ module _ (s : List ℕ) (e t at : ℕ) (there : is_accepted (run (value e t) s a
 
 -- the sizes, as the code has them
 module _ (s : List ℕ) (k : Dialect) (at : ℕ) where
-  module _ {e t : ℕ} (there : To e ≡ step_of (run (value e t) s at)) where
+  module _ {e t : ℕ} (there : Some e ≡ step_of (run (value e t) s at)) where
     pub text-size : t ≡ 8 → size_width k + (e - at) ≡ length (value_bytes (suc depth) k (content_read (run (value e t) s at)))
     text-size h =
         let r = step_yes (run (value e t) s at) there in

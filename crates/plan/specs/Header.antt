@@ -1,6 +1,6 @@
 -- The header that a sheet becomes: its entries with the alignment's own where that is added, and
 -- its tensors with their offsets.
-use Rattle.std.specs.Prelude.{ℕ, Bool, false, not, List, [], ◌∷◌, map, eqb, length, if◌then◌else◌}
+use Rattle.std.specs.Prelude.{ℕ, Bool, false, not, List, [], ◌∷◌, map, eqb, length, if◌then◌else◌, Option, Some, None}
 use Rattle.reading.specs.Each.{fold}
 use Rattle.fields.specs.Order.{before}
 use Rattle.reading.specs.Reading.{Answer, accepted, refused}
@@ -15,21 +15,19 @@ use Rattle.tensors.specs.Contents.{TensorContent, content_of}
 use Rattle.header.specs.Contents.{Contents, header_bytes, content_alignment}
 use Rattle.sheet.specs.Format.{SheetEntry, SheetTensor}
 use Rattle.sheet.specs.Sheet.{Records}
-use Rattle.plan.specs.declared.OwnAlignment.{OwnAlignment}
-use Rattle.plan.specs.declared.OwnAlignment.TheVariants.{Own, Absent}
 
 -- what a sheet says of the alignment, after one entry more
-abbrev pub own_alignment_with : OwnAlignment → SheetEntry → OwnAlignment
-own_alignment_with z e = if is_word alignment_key e.content.key then Own (content_alignment e.content.value) else z
+abbrev pub own_alignment_with : Option ℕ → SheetEntry → Option ℕ
+own_alignment_with z e = if is_word alignment_key e.content.key then Some (content_alignment e.content.value) else z
 
 -- the alignment that a reader will find in a sheet's own entry of it, if there is one
-abbrev pub own_alignment : List SheetEntry → OwnAlignment
-own_alignment es = fold own_alignment_with Absent es
+abbrev pub own_alignment : List SheetEntry → Option ℕ
+own_alignment es = fold own_alignment_with None es
 
 -- an alignment other than 32 that the sheet does not say itself must be added
-abbrev pub adds : ℕ → OwnAlignment → Bool
-adds a (Own x) = false
-adds a Absent = not (eqb a 32)
+abbrev pub adds : ℕ → Option ℕ → Bool
+adds a (Some x) = false
+adds a None = not (eqb a 32)
 
 -- the entry that says it, as a u32
 abbrev pub alignment_entry : ℕ → EntryContent

@@ -7,48 +7,43 @@
 --   35, 17, 13, 14, 15, 36  a tensor that can't be laid, with its number
 --   37  in version 1, a count above 2 ^ 32 - 1
 --   38  an output that is shorter than the start of the data
-use Rattle.std.specs.Prelude.{ℕ, max, Bool, true, List, map, leb, eqb, length, if◌then◌else◌}
+use Rattle.std.specs.Prelude.{ℕ, max, Bool, true, List, map, leb, eqb, length, if◌then◌else◌, Option, Some, None}
 use Rattle.reading.specs.Choice.{require}
+use Rattle.reading.specs.Replies.{Reply, gives, refuses}
 use Rattle.reading.specs.Reading.{Answer, accepted, refused}
 use Rattle.layout.specs.Layout.{Layout, laid_out_from, refused_at, layout_of}
 use Rattle.values.specs.declared.Dialect.{Dialect}
 use Rattle.start.specs.Format.{known_dialect}
 use Rattle.header.specs.Format.{is_alignment_lem}
 use Rattle.sheet.specs.Sheet.{Records, sheet_of}
-use Rattle.plan.specs.declared.OwnAlignment.{OwnAlignment}
-use Rattle.plan.specs.declared.OwnAlignment.TheVariants.{Own, Absent}
 use Rattle.plan.specs.declared.Draft.{Draft}
 use Rattle.plan.specs.declared.Plan.{Plan}
-use Rattle.plan.specs.declared.Planned.{Planned}
-use Rattle.plan.specs.declared.Planned.TheVariants.{Fine, Refused}
-use Rattle.plan.specs.declared.LaidOut.{LaidOut}
-use Rattle.plan.specs.declared.LaidOut.TheVariants.{Fits, Refused as NotLaid}
 use Rattle.plan.specs.Header.{own_alignment, adds, entries_of, piece_of, end_of, start_of}
 
 -- what follows of the records of a sheet that is well formed, and else the refusal, at its first
 -- bad entry
-abbrev pub require_formed : Answer Records → ℕ → (Records → Planned) → Planned
+abbrev pub require_formed : Answer Records → ℕ → (Records → Reply Plan) → Reply Plan
 require_formed (accepted c e) why rest = rest c
-require_formed (refused n p) why rest = Refused why p
+require_formed (refused n p) why rest = refuses why p
 
 -- an alignment that is added is a u32
-abbrev pub can_add : ℕ → OwnAlignment → Bool
+abbrev pub can_add : ℕ → Option ℕ → Bool
 can_add a said = if adds a said then leb a 4294967295 else true
 
 -- the sheet's own alignment is the caller's
-abbrev pub agrees : ℕ → OwnAlignment → Bool
-agrees a (Own x) = eqb x a
-agrees a Absent = true
+abbrev pub agrees : ℕ → Option ℕ → Bool
+agrees a (Some x) = eqb x a
+agrees a None = true
 
 -- the first tensor that can't be laid, if there is one
-abbrev pub laid_of : Layout → LaidOut
-laid_of (laid_out_from offsets laid) = Fits
-laid_of (refused_at why i) = NotLaid why i
+abbrev pub laid_of : Layout → Reply (Unit {0})
+laid_of (laid_out_from offsets laid) = gives tt
+laid_of (refused_at why i) = refuses why i
 
 -- what follows where all are laid, and else the refusal, with the tensor's number
-abbrev pub require_laid : LaidOut → Planned → Planned
-require_laid Fits rest = rest
-require_laid (NotLaid why i) rest = Refused why i
+abbrev pub require_laid : Reply (Unit {0}) → Reply Plan → Reply Plan
+require_laid (gives a) rest = rest
+require_laid (refuses why i) rest = refuses why i
 
 -- both counts fit a size
 abbrev pub counts_fit : Dialect → ℕ → ℕ → Bool
@@ -68,14 +63,14 @@ plan_of k a c = record { draft = draft_of a c; end = end_of k a c; start = start
 
 -- all tests of a writer, in their order: for a version and byte order, an alignment, the room of
 -- the output, and a sheet. A tensor that can't be laid is refused as 35, 17, 13, 14, 15 or 36
-unfoldable pub plan_for : Dialect → ℕ → ℕ → List ℕ → Planned
+unfoldable pub plan_for : Dialect → ℕ → ℕ → List ℕ → Reply Plan
 plan_for k a room s =
-    require (known_dialect k) (Refused 30 0)
+    require (known_dialect k) (refuses 30 0)
     (require_formed (sheet_of s) 31 (λ c.
-    require (is_alignment_lem a) (Refused 32 0)
-    (require (can_add a (own_alignment c.entries)) (Refused 33 0)
-    (require (agrees a (own_alignment c.entries)) (Refused 34 0)
+    require (is_alignment_lem a) (refuses 32 0)
+    (require (can_add a (own_alignment c.entries)) (refuses 33 0)
+    (require (agrees a (own_alignment c.entries)) (refuses 34 0)
     (require_laid (laid_of (layout_of a (map piece_of c.tensors)))
-    (require (counts_fit k (length (entries_of a c.entries)) (length c.tensors)) (Refused 37 0)
-    (require (leb (start_of k a c) room) (Refused 38 0)
-    (Fine (plan_of k a c)))))))))
+    (require (counts_fit k (length (entries_of a c.entries)) (length c.tensors)) (refuses 37 0)
+    (require (leb (start_of k a c) room) (refuses 38 0)
+    (gives (plan_of k a c)))))))))

@@ -2,9 +2,10 @@
 // has to know before it touches its output.
 #![tactic(auto)]
 
-ghost use Rattle.std.specs.Prelude.{◌≡◌, true, false, map, ℕ, suc, ◌+◌, ◌*◌, ◌≤◌, length, if◌then◌else◌};
+ghost use Rattle.std.specs.Prelude.{◌≡◌, true, false, map, ℕ, suc, ◌+◌, ◌*◌, ◌≤◌, length, if◌then◌else◌, Some};
 ghost use Rattle.reading.specs.Reading.{run, is_accepted};
 ghost use Rattle.reading.specs.Each.{times};
+ghost use Rattle.reading.specs.Replies.{as_reply, as_result};
 ghost use Rattle.reading.specs.Back.{got, bytes_of_all};
 ghost use Rattle.layout.specs.Layout.{place_of, layout_of};
 ghost use Rattle.values.specs.Format.{is_word, alignment_key, depth, size_width};
@@ -13,28 +14,18 @@ ghost use Rattle.values.specs.Contents.{value_bytes, entry_bytes};
 ghost use Rattle.tensors.specs.Contents.{tensor_bytes};
 ghost use Rattle.header.specs.Contents.{content_alignment};
 ghost use Rattle.sheet.specs.Format as format;
-ghost use Rattle.sheet.specs.declared.Stepped.TheVariants.{To};
 ghost use Rattle.sheet.specs.Sheet.{sheet_of};
 ghost use Rattle.layout.specs.declared.Laid.{Laid};
-ghost use Rattle.plan.specs.declared.Room.TheVariants.{Left};
 ghost use Rattle.plan.specs.Header as header_of;
 ghost use Rattle.plan.specs.Plan as plan_of;
 ghost use Rattle.plan.specs.Steps as steps;
 ghost use Rattle.sheet.specs.Steps.{step_of};
 
-use fields::{Number, Width};
-use kinds::Bounded;
+use fields::Width;
 use layout::{Laid, Placed};
-use scalars::ScalarWidth;
-use sheet::{Checked, EntryParts, Stepped, TensorFound, TensorParts};
+use reading::{Reason, Refusal};
+use sheet::{EntryParts, TensorParts};
 use values::{Dialect, Value};
-
-// The alignment that a sheet says itself, if it does.
-#[derive(Clone, Copy)]
-pub enum OwnAlignment {
-    Own { alignment: u64 },
-    Absent,
-}
 
 // How many records a sheet has, where its tensors begin, and whether the alignment's entry is added
 // to them.
@@ -54,68 +45,40 @@ pub struct Plan {
     pub start: usize,
 }
 
-#[derive(Clone, Copy)]
-pub enum Planned {
-    Fine { plan: Plan },
-    Refused { why: u64, place: usize },
-}
-
-// That all tensors can be laid, or the refusal and the number of the first that can't.
-#[derive(Clone, Copy)]
-pub enum LaidOut {
-    Fits,
-    Refused { why: u64, tensor: usize },
-}
-
-// What is left of a room, or that it is too small.
-#[derive(Clone, Copy)]
-pub enum Room {
-    Left { bytes: usize },
-    Over,
-}
-
 // The alignment that a value gives a reader. It is of the type form and ends at end.
 fn value_alignment(s: &[u8], at: usize, end: usize, form: u64) -> u64
     requires { is_accepted (run (format.value end form) s.now at) ≡ true }
     ensures { result ≡ content_alignment (steps.content_read (run (format.value end form) s.now at)) }
 {
-    match scalars::scalar_width(form) {
-        ScalarWidth::None => 32,
-        ScalarWidth::Of { width } => match fields::number_at(s, at, width, true) {
-            Number::Refused { why: _, place: _ } => 32,
-            Number::Value { value, next: _ } => {
-                header::alignment_of(Value::Single(scalars::scalar_of(form, value)))
-            }
-        },
-    }
+    let Some(width) = scalars::scalar_width(form) else {
+        return 32;
+    };
+    let Ok((value, _)) = fields::number_at(s, at, width, true) else {
+        return 32;
+    };
+    header::alignment_of(Value::Single(scalars::scalar_of(form, value)))
 }
 
 // The alignment that n entries, which are all there, say.
-fn own_alignment(s: &[u8], n: usize) -> OwnAlignment
+fn own_alignment(s: &[u8], n: usize) -> Option<u64>
     requires { is_accepted (run (times n format.metadata) s.now 1) ≡ true }
     ensures { result ≡ header_of.own_alignment (got (run (times n format.metadata) s.now 1)) }
 {
-    let mut from: usize = 1;
-    let mut said = OwnAlignment::Absent;
-    let mut i: usize = 0;
-    while i < n {
-        let entry = sheet::known_entry(s, from);
-        let parts = entry.parts;
-        let key = parts.key;
-        if values::is_alignment_key(values::inside(s, key)) {
-            said = OwnAlignment::Own {
-                alignment: value_alignment(s, parts.value, entry.next, parts.form),
-            };
+    let mut from = 1;
+    let mut said = None;
+    for _ in 0..n {
+        let (parts, next) = sheet::known_entry(s, from);
+        if values::is_alignment_key(values::inside(s, parts.key)) {
+            said = Some(value_alignment(s, parts.value, next, parts.form));
         }
-        from = entry.next;
-        i += 1;
+        from = next;
     }
     said
 }
 
 // The place of a tensor after what is laid.
-pub fn lay(laid: Laid, parts: TensorParts, alignment: u64) -> Placed
-    ensures { result ≡ place_of alignment laid (lengths parts.shape) parts.kind }
+pub fn lay(laid: Laid, parts: TensorParts, alignment: u64) -> Result<Placed, Reason>
+    ensures { as_result result ≡ place_of alignment laid (lengths parts.shape) parts.kind }
 {
     let x = parts.shape;
     layout::place(
@@ -127,35 +90,21 @@ pub fn lay(laid: Laid, parts: TensorParts, alignment: u64) -> Placed
 }
 
 // Lays m tensors, which are all there, one after the other.
-fn lay_tensors(s: &[u8], first: usize, m: usize, alignment: u64) -> LaidOut
+fn lay_tensors(s: &[u8], first: usize, m: usize, alignment: u64) -> Result<(), Refusal>
     requires { is_accepted (run (times m format.tensor) s.now first) ≡ true }
-    ensures { result ≡ plan_of.laid_of (layout_of alignment (map header_of.piece_of (got (run (times m format.tensor) s.now first)))) }
+    ensures { as_reply result ≡ plan_of.laid_of (layout_of alignment (map header_of.piece_of (got (run (times m format.tensor) s.now first)))) }
 {
     let mut from = first;
     let mut laid = Laid { total: 0, next: 0 };
-    let mut i: usize = 0;
-    while i < m {
-        match sheet::tensor_at(s, from) {
-            TensorFound::Bad => {
-                return LaidOut::Fits;
-            }
-            TensorFound::Found { parts, next } => match lay(laid, parts, alignment) {
-                Placed::Refused { why } => {
-                    return LaidOut::Refused { why, tensor: i };
-                }
-                Placed::At {
-                    offset: _,
-                    size: _,
-                    laid: after,
-                } => {
-                    laid = after;
-                    from = next;
-                }
-            },
-        }
-        i += 1;
+    for i in 0..m {
+        let Some((parts, next)) = sheet::tensor_at(s, from) else {
+            return Ok(());
+        };
+        let placed = lay(laid, parts, alignment).map_err(|why| Refusal { why, place: i })?;
+        laid = placed.laid;
+        from = next;
     }
-    LaidOut::Fits
+    Ok(())
 }
 
 // The bytes of a size.
@@ -166,33 +115,32 @@ fn size_width(dialect: Dialect) -> usize
 }
 
 // The room without n bytes.
-fn take_from(room: Room, n: usize) -> Room
+#[tactic(auto, unfolding(crate::specs::Steps::taken_from))]
+fn take_from(room: Option<usize>, n: usize) -> Option<usize>
     ensures { result ≡ steps.taken_from room n }
 {
-    match room {
-        Room::Over => Room::Over,
-        Room::Left { bytes } => {
-            if bytes < n {
-                Room::Over
-            } else {
-                Room::Left { bytes: bytes - n }
-            }
-        }
-    }
+    room?.checked_sub(n)
 }
 
 // The room without an array, as it will stand in the header, in which, itself counted, depth arrays
 // may stand in one another. Items that are no arrays keep their bytes there, but for the sizes of
 // texts, so that they are not looked at.
-#[cycle(array_room_arrays_room)]
-fn array_room(room: Room, s: &[u8], at: usize, end: usize, dialect: Dialect, depth: u64) -> Room
-    requires { To end ≡ step_of (run (format.array depth (format.item depth)) s.now at) }
+#[cycle(arrays)]
+fn array_room(
+    room: Option<usize>,
+    s: &[u8],
+    at: usize,
+    end: usize,
+    dialect: Dialect,
+    depth: u64,
+) -> Option<usize>
+    requires { Some end ≡ step_of (run (format.array depth (format.item depth)) s.now at) }
     ensures { result ≡ steps.taken_from room (length (value_bytes (suc depth) dialect (steps.content_read (run (format.array depth (format.item depth)) s.now at)))) }
 {
-    let Number::Value { value: t, next: p } = fields::number_at(s, at, Width::One, true) else {
+    let Ok((t, p)) = fields::number_at(s, at, Width::One, true) else {
         return room;
     };
-    let Number::Value { value: n, next: q } = fields::number_at(s, p, Width::Four, true) else {
+    let Ok((n, q)) = fields::number_at(s, p, Width::Four, true) else {
         return room;
     };
     let width = size_width(dialect);
@@ -210,28 +158,40 @@ fn array_room(room: Room, s: &[u8], at: usize, end: usize, dialect: Dialect, dep
 
 // The room without n arrays, which are all there. Each is passed first, to know where it ends. This
 // and `array_room` call each other at most depth times, so that depth bounds their stack.
-#[cycle(array_room_arrays_room)]
-fn arrays_room(room: Room, s: &[u8], at: usize, n: u64, dialect: Dialect, depth: u64) -> Room
+#[cycle(arrays)]
+fn arrays_room(
+    room: Option<usize>,
+    s: &[u8],
+    at: usize,
+    n: u64,
+    dialect: Dialect,
+    depth: u64,
+) -> Option<usize>
     requires { is_accepted (run (times n (format.array depth (format.item depth))) s.now at) ≡ true }
     ensures { result ≡ steps.taken_from room (length (bytes_of_all (value_bytes (suc depth) dialect) (got (run (times n (format.array depth (format.item depth))) s.now at)))) }
 {
     let mut left = room;
     let mut from = at;
-    let mut i: u64 = 0;
-    while i < n {
-        let Stepped::To { next } = sheet::pass_array(s, from, depth) else {
+    for _ in 0..n {
+        let Some(next) = sheet::pass_array(s, from, depth) else {
             return left;
         };
         left = array_room(left, s, from, next, dialect, depth);
         from = next;
-        i += 1;
     }
     left
 }
 
 // The room without a value, which is of the type form and ends at end.
-fn value_room(room: Room, s: &[u8], at: usize, end: usize, form: u64, dialect: Dialect) -> Room
-    requires { To end ≡ step_of (run (format.value end form) s.now at) }
+fn value_room(
+    room: Option<usize>,
+    s: &[u8],
+    at: usize,
+    end: usize,
+    form: u64,
+    dialect: Dialect,
+) -> Option<usize>
+    requires { Some end ≡ step_of (run (format.value end form) s.now at) }
     ensures { result ≡ steps.taken_from room (length (value_bytes (suc depth) dialect (steps.content_read (run (format.value end form) s.now at)))) }
 {
     if form == 9 {
@@ -245,105 +205,112 @@ fn value_room(room: Room, s: &[u8], at: usize, end: usize, form: u64, dialect: D
 }
 
 // The room without an entry.
-fn entry_room(room: Room, s: &[u8], parts: EntryParts, end: usize, dialect: Dialect) -> Room
-    requires { To end ≡ step_of (run (format.value end parts.form) s.now parts.value) }
+#[tactic(auto, using(crate::proofs::Rooms::taken_thrice))]
+fn entry_room(
+    room: Option<usize>,
+    s: &[u8],
+    parts: EntryParts,
+    end: usize,
+    dialect: Dialect,
+) -> Option<usize>
+    requires { Some end ≡ step_of (run (format.value end parts.form) s.now parts.value) }
     ensures { result ≡ steps.taken_from room (size_width dialect + 4 + parts.key.len + length (value_bytes (suc depth) dialect (steps.content_read (run (format.value end parts.form) s.now parts.value)))) }
 {
-    let key = parts.key;
-    let named = take_from(take_from(room, size_width(dialect) + 4), key.len);
+    let named = take_from(take_from(room, size_width(dialect) + 4), parts.key.len);
     value_room(named, s, parts.value, end, parts.form, dialect)
 }
 
 // The room without n entries, which are all there.
-fn entries_room(room: Room, s: &[u8], n: usize, dialect: Dialect) -> Room
+fn entries_room(room: Option<usize>, s: &[u8], n: usize, dialect: Dialect) -> Option<usize>
     requires { is_accepted (run (times n format.metadata) s.now 1) ≡ true }
     ensures { result ≡ steps.taken_from room (length (bytes_of_all (entry_bytes dialect) (map header_of.entry_in (got (run (times n format.metadata) s.now 1))))) }
 {
     let mut left = room;
-    let mut from: usize = 1;
-    let mut i: usize = 0;
-    while i < n {
-        let entry = sheet::known_entry(s, from);
-        left = entry_room(left, s, entry.parts, entry.next, dialect);
-        from = entry.next;
-        i += 1;
+    let mut from = 1;
+    for _ in 0..n {
+        let (parts, next) = sheet::known_entry(s, from);
+        left = entry_room(left, s, parts, next, dialect);
+        from = next;
     }
     left
 }
 
 // The room without a tensor.
-fn tensor_room(room: Room, parts: TensorParts, dialect: Dialect) -> Room
+#[tactic(auto, using(crate::proofs::Rooms::taken_twice))]
+fn tensor_room(room: Option<usize>, parts: TensorParts, dialect: Dialect) -> Option<usize>
     requires { parts.shape.dimensions ≤ 4 }
     ensures { result ≡ steps.taken_from room (size_width dialect + 16 + 8 * parts.shape.dimensions + parts.name.len) }
 {
-    let name = parts.name;
-    let x = parts.shape;
-    let lengths = 8 * (x.dimensions as usize);
+    let lengths = 8 * (parts.shape.dimensions as usize);
     take_from(
         take_from(room, size_width(dialect) + 16 + lengths),
-        name.len,
+        parts.name.len,
     )
 }
 
 // The room without m tensors, which are all there. What their offsets are does not matter.
-fn tensors_room(room: Room, s: &[u8], first: usize, m: usize, dialect: Dialect) -> Room
+fn tensors_room(
+    room: Option<usize>,
+    s: &[u8],
+    first: usize,
+    m: usize,
+    dialect: Dialect,
+) -> Option<usize>
     requires { is_accepted (run (times m format.tensor) s.now first) ≡ true }
     ensures { (a : ℕ) (laid : Laid) → result ≡ steps.taken_from room (length (bytes_of_all (tensor_bytes dialect) (header_of.laid_from a laid (got (run (times m format.tensor) s.now first))))) }
 {
     let mut left = room;
     let mut from = first;
-    let mut i: usize = 0;
-    while i < m {
-        match sheet::tensor_at(s, from) {
-            TensorFound::Bad => {
-                return left;
-            }
-            TensorFound::Found { parts, next } => {
-                left = tensor_room(left, parts, dialect);
-                from = next;
-            }
-        }
-        i += 1;
+    for _ in 0..m {
+        let Some((parts, next)) = sheet::tensor_at(s, from) else {
+            return left;
+        };
+        left = tensor_room(left, parts, dialect);
+        from = next;
     }
     left
 }
 
 // The room without the whole header of a sheet that is well formed.
-fn header_room(s: &[u8], dialect: Dialect, draft: Draft, room: usize) -> Room
+fn header_room(s: &[u8], dialect: Dialect, draft: Draft, room: usize) -> Option<usize>
     requires s_value { is_accepted (sheet_of s.now) ≡ true }
     requires draft_value { draft ≡ plan_of.draft_with draft.adds (header_of.records_in (sheet_of s.now)) }
-    ensures { (a : ℕ) → draft.adds ≡ header_of.adds a (header_of.own_alignment (header_of.records_in (sheet_of s.now)).entries) → result ≡ steps.taken_from (Left room) (header_of.end_of dialect a (header_of.records_in (sheet_of s.now))) }
+    ensures { (a : ℕ) → draft.adds ≡ header_of.adds a (header_of.own_alignment (header_of.records_in (sheet_of s.now)).entries) → result ≡ steps.taken_from (Some room) (header_of.end_of dialect a (header_of.records_in (sheet_of s.now))) }
 {
     let width = size_width(dialect);
     let added = if draft.adds { width + 25 } else { 0 };
-    let begun = take_from(Room::Left { bytes: room }, 8 + width + width + added);
+    let begun = take_from(Some(room), 8 + width + width + added);
     let said = entries_room(begun, s, draft.entries, dialect);
     tensors_room(said, s, draft.first, draft.tensors, dialect)
 }
 
 // The test of the room, for a sheet that is well formed.
-fn plan_room(s: &[u8], dialect: Dialect, alignment: u64, draft: Draft, room: usize) -> Planned
+fn plan_room(
+    s: &[u8],
+    dialect: Dialect,
+    alignment: u64,
+    draft: Draft,
+    room: usize,
+) -> Result<Plan, Refusal>
     requires s_value { is_accepted (sheet_of s.now) ≡ true }
     requires draft_value { draft ≡ plan_of.draft_of alignment (header_of.records_in (sheet_of s.now)) }
-    ensures { result ≡ steps.roomed dialect alignment room (header_of.records_in (sheet_of s.now)) }
+    ensures { as_reply result ≡ steps.roomed dialect alignment room (header_of.records_in (sheet_of s.now)) }
 {
-    let Room::Left { bytes } = header_room(s, dialect, draft, room) else {
-        return Planned::Refused { why: 38, place: 0 };
+    let short = Refusal {
+        why: Reason::OutputTooShort,
+        place: 0,
     };
-    let end = room - bytes;
-    let Bounded::Fits { value: start } = layout::pad(alignment, end as u64) else {
-        return Planned::Refused { why: 38, place: 0 };
-    };
+    let left = header_room(s, dialect, draft, room).ok_or(short)?;
+    let end = room - left;
+    let start = layout::pad(alignment, end as u64).ok_or(short)?;
     if (room as u64) < start {
-        return Planned::Refused { why: 38, place: 0 };
+        return Err(short);
     }
-    Planned::Fine {
-        plan: Plan {
-            draft,
-            end,
-            start: start as usize,
-        },
-    }
+    Ok(Plan {
+        draft,
+        end,
+        start: start as usize,
+    })
 }
 
 // Whether both counts fit a size, the added entry included.
@@ -354,88 +321,89 @@ fn counts_fit(dialect: Dialect, draft: Draft) -> bool
         return true;
     }
     let most: usize = if draft.adds { 4294967294 } else { 4294967295 };
-    if most < draft.entries {
-        return false;
-    }
-    draft.tensors <= 4294967295
+    draft.entries <= most && draft.tensors <= 4294967295
 }
 
 // The tests of the tensors, of the counts and of the room.
-fn plan_tensors(s: &[u8], dialect: Dialect, alignment: u64, draft: Draft, room: usize) -> Planned
+fn plan_tensors(
+    s: &[u8],
+    dialect: Dialect,
+    alignment: u64,
+    draft: Draft,
+    room: usize,
+) -> Result<Plan, Refusal>
     requires s_value { is_accepted (sheet_of s.now) ≡ true }
     requires draft_value { draft ≡ plan_of.draft_of alignment (header_of.records_in (sheet_of s.now)) }
-    ensures { result ≡ steps.laid dialect alignment room (header_of.records_in (sheet_of s.now)) }
+    ensures { as_reply result ≡ steps.laid dialect alignment room (header_of.records_in (sheet_of s.now)) }
 {
-    match lay_tensors(s, draft.first, draft.tensors, alignment) {
-        LaidOut::Refused { why, tensor } => Planned::Refused { why, place: tensor },
-        LaidOut::Fits => {
-            if counts_fit(dialect, draft) {
-                plan_room(s, dialect, alignment, draft, room)
-            } else {
-                Planned::Refused { why: 37, place: 0 }
-            }
-        }
+    lay_tensors(s, draft.first, draft.tensors, alignment)?;
+    if !counts_fit(dialect, draft) {
+        return Err(Refusal {
+            why: Reason::CountOverflow,
+            place: 0,
+        });
     }
+    plan_room(s, dialect, alignment, draft, room)
 }
 
 // The tests of the alignment, and those after them.
-fn plan_alignment(s: &[u8], dialect: Dialect, alignment: u64, draft: Draft, room: usize) -> Planned
+fn plan_alignment(
+    s: &[u8],
+    dialect: Dialect,
+    alignment: u64,
+    draft: Draft,
+    room: usize,
+) -> Result<Plan, Refusal>
     requires s_value { is_accepted (sheet_of s.now) ≡ true }
     requires draft_value { draft ≡ plan_of.draft_with false (header_of.records_in (sheet_of s.now)) }
-    ensures { result ≡ steps.aligned dialect alignment room (header_of.records_in (sheet_of s.now)) }
+    ensures { as_reply result ≡ steps.aligned dialect alignment room (header_of.records_in (sheet_of s.now)) }
 {
-    if alignment == 0 {
-        return Planned::Refused { why: 32, place: 0 };
+    if alignment == 0 || alignment % 8 != 0 {
+        return Err(Refusal {
+            why: Reason::BadAlignment,
+            place: 0,
+        });
     }
-    if alignment % 8 != 0 {
-        return Planned::Refused { why: 32, place: 0 };
-    }
-    match own_alignment(s, draft.entries) {
-        OwnAlignment::Own { alignment: said } => {
+    let adds = match own_alignment(s, draft.entries) {
+        Some(said) => {
             if said != alignment {
-                return Planned::Refused { why: 34, place: 0 };
+                return Err(Refusal {
+                    why: Reason::OtherAlignment,
+                    place: 0,
+                });
             }
-            plan_tensors(s, dialect, alignment, draft, room)
+            false
         }
-        OwnAlignment::Absent => {
-            if alignment == 32 {
-                return plan_tensors(s, dialect, alignment, draft, room);
-            }
-            if 4294967295 < alignment {
-                return Planned::Refused { why: 33, place: 0 };
-            }
-            let added = Draft {
-                entries: draft.entries,
-                tensors: draft.tensors,
-                first: draft.first,
-                adds: true,
-            };
-            plan_tensors(s, dialect, alignment, added, room)
-        }
+        None => alignment != 32,
+    };
+    if adds && 4294967295 < alignment {
+        return Err(Refusal {
+            why: Reason::AlignmentTooLarge,
+            place: 0,
+        });
     }
+    plan_tensors(s, dialect, alignment, Draft { adds, ..draft }, room)
 }
 
 // All tests of a writer: for a version and byte order, an alignment, and the room of its output.
-pub fn plan_header(s: &[u8], dialect: Dialect, alignment: u64, room: usize) -> Planned
-    ensures { result ≡ plan_of.plan_for dialect alignment room s.now }
+pub fn plan_header(s: &[u8], dialect: Dialect, alignment: u64, room: usize) -> Result<Plan, Refusal>
+    ensures { as_reply result ≡ plan_of.plan_for dialect alignment room s.now }
 {
     if !start::is_known(dialect) {
-        return Planned::Refused { why: 30, place: 0 };
+        return Err(Refusal {
+            why: Reason::VersionNotWritten,
+            place: 0,
+        });
     }
-    match sheet::check(s) {
-        Checked::Bad { place } => Planned::Refused { why: 31, place },
-        Checked::WellFormed {
-            entries,
-            tensors,
-            first,
-        } => {
-            let draft = Draft {
-                entries,
-                tensors,
-                first,
-                adds: false,
-            };
-            plan_alignment(s, dialect, alignment, draft, room)
-        }
-    }
+    let counts = sheet::check(s).map_err(|place| Refusal {
+        why: Reason::BadSheet,
+        place,
+    })?;
+    let draft = Draft {
+        entries: counts.entries,
+        tensors: counts.tensors,
+        first: counts.first,
+        adds: false,
+    };
+    plan_alignment(s, dialect, alignment, draft, room)
 }

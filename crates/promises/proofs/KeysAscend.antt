@@ -1,5 +1,6 @@
 -- The keys of a header that was written ascend strictly, the added one in its place. Assumes
 -- nothing.
+use Rattle.writer.specs.Output.{written_at}
 use Rattle.std.specs.Prelude.{if◌then◌else◌}
 use Prim.Native.Nat.{ℕ}
 use mathlib.Core.Path.{◌≡◌, refl, sym, ap, subst}
@@ -16,7 +17,6 @@ use Rattle.values.specs.Contents.{EntryContent}
 use Rattle.sheet.specs.Format.{SheetEntry}
 use Rattle.sheet.proofs.WholeSheet.{Ascending, sheet_ascending}
 use Rattle.plan.specs.Header.{own_alignment, adds, alignment_entry, inserted, entry_in, entries_with, entries_of, header_contents, records_in}
-use Rattle.writer.specs.declared.HeaderWritten.TheVariants.{Written}
 use Rattle.writer.proofs.Planned.{planned-by}
 use Rattle.promises.specs.Back.{answer_for, contents_for}
 use Rattle.promises.proofs.AlignmentKept.{none_said, was_absent}
@@ -70,7 +70,7 @@ entries_ascend a es up = by (adds a (own_alignment es)) refl
     by false e = own
 
 -- for any record sheet, version, byte order, alignment and output
-pub keys_ascend : (k : Dialect) (a : ℕ) (s out : List ℕ) {end start : ℕ} → Written end start ≡ answer_for k a s out → Ascending (map (λ (e : EntryContent). e.key) (contents_for a s).entries)
+pub keys_ascend : (k : Dialect) (a : ℕ) (s out : List ℕ) {end start : ℕ} → written_at end start ≡ answer_for k a s out → Ascending (map (λ (e : EntryContent). e.key) (contents_for a s).entries)
 keys_ascend k a s out wrote =
     let w = wrote-plan k a s out wrote in
     let p = planned-by k a (length out) s w.fine in

@@ -1,12 +1,14 @@
 -- The offsets in a header are those of the layout of its tensors. Assumes nothing.
+use Rattle.std.specs.Prelude.{Result, Ok, Err}
 use Prim.Native.Nat.{ℕ, suc}
 use mathlib.Core.Path.{◌≡◌, refl, sym, ap, subst, ◌∙◌}
 use mathlib.Core.List.{List, [], ◌∷◌, map}
 use native.Mathlib.Omega.{arith}
 use lib.ListN.{length}
+use Rattle.reading.specs.Replies.{gives}
+use Rattle.writer.specs.Output.{written_at}
 use Rattle.layout.specs.declared.Laid.{Laid}
 use Rattle.layout.specs.declared.Placed.{Placed}
-use Rattle.layout.specs.declared.Placed.TheVariants.{At, Refused}
 use Rattle.layout.specs.Layout.{nothing_laid, place_of, Layout, laid_out_from, refused_at, ahead, layout_from, layout_of}
 use Rattle.layout.specs.Placement.{piece_size, Earliest}
 use Rattle.layout.proofs.OffsetFacts.{offsets-earliest as layout-earliest}
@@ -16,10 +18,8 @@ use Rattle.tensors.specs.Format.{lengths}
 use Rattle.tensors.specs.Contents.{TensorContent}
 use Rattle.sheet.specs.Format.{SheetTensor}
 use Rattle.sheet.specs.Sheet.{Records, sheet_of}
-use Rattle.plan.specs.declared.LaidOut.TheVariants.{Fits}
 use Rattle.plan.specs.Header.{piece_of, laid_with, laid_from, records_in}
 use Rattle.plan.specs.Plan.{laid_of}
-use Rattle.writer.specs.declared.HeaderWritten.TheVariants.{Written}
 use Rattle.writer.proofs.Planned.{PlannedBy, planned-by}
 use Rattle.promises.specs.Back.{answer_for, pieces_in, offsets_in, sizes_in}
 use Rattle.promises.proofs.AlignmentKept.{above_zero}
@@ -48,17 +48,19 @@ offsets-from a before i [] {offsets} {laid} e =
 offsets-from a before i (t ∷ ts) {offsets} {laid} e =
     by (place_of a before (lengths t.parts.shape) t.parts.kind) refl (λ others h. offsets-from a (laid_with a before t) (suc i) ts h)
   where
-    by : (p : Placed) → place_of a before (lengths t.parts.shape) t.parts.kind ≡ p
+    by : (p : Result Placed ℕ) → place_of a before (lengths t.parts.shape) t.parts.kind ≡ p
         → ((others : List ℕ) → layout_from a (laid_with a before t) (suc i) (map piece_of ts) ≡ laid_out_from others laid → map offset_in (laid_from a (laid_with a before t) ts) ≡ others)
         → map offset_in (laid_from a before (t ∷ ts)) ≡ offsets
-    by (At o s after) f next =
+    by (Ok x) f next =
+        let o = x.offset in
+        let after = x.laid in
         let p = placed_by a before (lengths t.parts.shape) t.parts.kind f in
         let r = rest_of o (layout_from a after (suc i) (map piece_of ts)) (sym (layout_goes_on a before i (piece_of t) (map piece_of ts) f) ∙ e) in
         let h = next r.others (subst (λ (l : Laid). layout_from a l (suc i) (map piece_of ts) ≡ laid_out_from r.others laid) p.then r.is) in
         let o_is : o ≡ before.next = p.offset in
         let made : offsets ≡ o ∷ r.others = r.made in
         cc
-    by (Refused w) f next =
+    by (Err w) f next =
         let h = sym (layout_stops a before i (piece_of t) (map piece_of ts) f) ∙ e in
         let z : ◌≡◌ {A = ℕ} 0 1 = cc in
         absurd (omega arith)
@@ -80,19 +82,19 @@ record Laying (layout : Layout) : Type 0 where
   laid : Laid
   is : layout ≡ laid_out_from offsets laid
 
-laying : (layout : Layout) → Fits ≡ laid_of layout → Laying layout
+laying : (layout : Layout) → gives tt ≡ laid_of layout → Laying layout
 laying (laid_out_from offsets laid) e = record { offsets = offsets; laid = laid; is = refl }
 laying (refused_at w i) e = let z : ◌≡◌ {A = ℕ} 0 1 = cc in absurd (omega arith)
 
 -- For any record sheet, version, byte order, alignment and output, where the header was written.
-module _ (k : Dialect) (a : ℕ) (s out : List ℕ) {end start : ℕ} (wrote : Written end start ≡ answer_for k a s out) where
+module _ (k : Dialect) (a : ℕ) (s out : List ℕ) {end start : ℕ} (wrote : written_at end start ≡ answer_for k a s out) where
   planned : PlannedBy k a (length out) s (wrote-plan k a s out wrote).plan
   planned = planned-by k a (length out) s (wrote-plan k a s out wrote).fine
 
   laid_out : Laying (layout_of a (pieces_in s))
   laid_out =
       let same : records_in (sheet_of s) ≡ planned.records = ap records_in (sym planned.is) in
-      laying (layout_of a (pieces_in s)) (subst (λ (c : Records). Fits ≡ laid_of (layout_of a (map piece_of c.tensors))) (sym same) planned.fits)
+      laying (layout_of a (pieces_in s)) (subst (λ (c : Records). (gives tt) ≡ laid_of (layout_of a (map piece_of c.tensors))) (sym same) planned.fits)
 
   are : offsets_in a s ≡ laid_out.offsets
   are = offsets_computed a (records_in (sheet_of s)).tensors laid_out.is

@@ -1,50 +1,25 @@
 -- Contracts fix their results. Most are equations, `result ≡ definition`, and two results that
--- equal one thing are equal. Where an answer is an enum whose contract says `asX result ≡
--- definition`, `asX` tells any two answers apart, so that two results that it allows coincide.
+-- equal one thing are equal. Where a contract says `as_answer result ≡ definition`, or
+-- the same of another view of an answer, that view tells any two answers apart, so that two results
+-- that it allows coincide.
 -- Assumes nothing.
+use Rattle.std.specs.Prelude.{Option, Some, None, Result, Ok, Err, eqb, if◌then◌else◌}
 use Prim.Native.Nat.{ℕ}
 use mathlib.Core.Path.{◌≡◌, refl, sym, ap, ◌∙◌}
 use mathlib.Core.List.{List}
 use native.Mathlib.Omega.{arith}
+use Rattle.reading.specs.declared.Reason.{Reason}
+use Rattle.reading.specs.declared.Reason.TheVariants as reasons
+use Rattle.reading.specs.declared.Refusal.{Refusal}
 use Rattle.reading.specs.Reading.{accepted, refused}
-use Rattle.fields.specs.declared.Number.{Number}
-use Rattle.fields.specs.declared.Number.TheVariants.{Value as FoundNumber, Refused as NoNumber}
-use Rattle.values.specs.declared.TextRead.{TextRead}
-use Rattle.values.specs.declared.TextRead.TheVariants.{Found as FoundText, Refused as NoText}
-use Rattle.values.specs.declared.KeyRead.{KeyRead}
-use Rattle.values.specs.declared.KeyRead.TheVariants.{Found as FoundKey, Refused as NoKey}
-use Rattle.values.specs.declared.Passed.{Passed}
-use Rattle.values.specs.declared.Passed.TheVariants.{To as FoundPassed, Refused as NoPassed}
-use Rattle.values.specs.declared.ArrayRead.{ArrayRead}
-use Rattle.values.specs.declared.ArrayRead.TheVariants.{Found as FoundArray, Refused as NoArray}
-use Rattle.values.specs.declared.ValueRead.{ValueRead}
-use Rattle.values.specs.declared.ValueRead.TheVariants.{Found as FoundValue, Refused as NoValue}
-use Rattle.values.specs.declared.EntryRead.{EntryRead}
-use Rattle.values.specs.declared.EntryRead.TheVariants.{Found as FoundEntry, Refused as NoEntry}
-use Rattle.tensors.specs.declared.ShapeRead.{ShapeRead}
-use Rattle.tensors.specs.declared.ShapeRead.TheVariants.{Found as FoundShape, Refused as NoShape}
-use Rattle.tensors.specs.declared.KindAndOffsetRead.{KindAndOffsetRead}
-use Rattle.tensors.specs.declared.KindAndOffsetRead.TheVariants.{Found as FoundStored, Refused as NoStored}
-use Rattle.tensors.specs.declared.TensorRead.{TensorRead}
-use Rattle.tensors.specs.declared.TensorRead.TheVariants.{Found as FoundTensor, Refused as NoTensor}
-use Rattle.start.specs.declared.MagicRead.{MagicRead}
-use Rattle.start.specs.declared.MagicRead.TheVariants.{Found as FoundMagic, Refused as NoMagic}
-use Rattle.start.specs.declared.VersionRead.{VersionRead}
-use Rattle.start.specs.declared.VersionRead.TheVariants.{Found as FoundVersion, Refused as NoVersion}
-use Rattle.start.specs.declared.StartRead.{StartRead}
-use Rattle.start.specs.declared.StartRead.TheVariants.{Found as FoundStart, Refused as NoStart}
-use Rattle.header.specs.declared.HeaderRead.{HeaderRead}
-use Rattle.header.specs.declared.HeaderRead.TheVariants.{Found as FoundHeader, Refused as NoHeader}
+use Rattle.reading.specs.Replies.{reason_number, as_answer, as_passed, as_reply, as_result}
+use Rattle.reading.proofs.Sames.{same_ok, same_err, same_read}
 use Rattle.fields.specs.Bytes.{Wrote}
-use Rattle.fields.specs.Value.{width_of, as_number}
+use Rattle.fields.specs.Value.{width_of}
 use Rattle.fields.specs.declared.Width.{Width}
 use Rattle.fields.specs.declared.Width.TheVariants.{One, Two, Four, Eight}
-use Rattle.scalars.specs.declared.ScalarWidth.{ScalarWidth}
-use Rattle.scalars.specs.declared.ScalarWidth.TheVariants.{Of, None}
 use Rattle.scalars.specs.Scalars.{as_width}
-use Rattle.values.specs.Answers.{as_text, as_key, as_passed, as_array, as_value, as_entry}
-use Rattle.tensors.specs.Answers.{as_shape, as_kind_and_offset, as_tensor}
-use Rattle.start.specs.Answers.{as_magic, as_version, as_start}
+use Rattle.header.specs.declared.Header.{Header}
 use Rattle.header.specs.Answers.{as_header}
 
 -- two results of one equation
@@ -59,103 +34,118 @@ one-output x y = (x.bytes ∙ sym y.bytes, x.count ∙ sym y.count)
 apart : {A Z : Type 0} {a : A} {q n p : ℕ} → accepted a q ≡ refused n p → Z
 apart e = let z : ◌≡◌ {A = ℕ} 0 1 = cc in absurd (omega arith)
 
--- a number
-pub one_number : (x y : Number) → as_number x ≡ as_number y → x ≡ y
-one_number (FoundNumber a q) (FoundNumber b r) e = cc
-one_number (FoundNumber a q) (NoNumber m o) e = apart e
-one_number (NoNumber n p) (FoundNumber b r) e = apart (sym e)
-one_number (NoNumber n p) (NoNumber m o) e = cc
+-- the reason of a number; of one that is none's, the first
+abbrev reason_of : ℕ → Reason
+reason_of n =
+    if eqb n 2 then reasons.OlderFormat else
+    if eqb n 3 then reasons.NotGguf else
+    if eqb n 4 then reasons.UnknownVersion else
+    if eqb n 5 then reasons.VersionAboveCeiling else
+    if eqb n 6 then reasons.TooFewRows else
+    if eqb n 7 then reasons.StringTooLong else
+    if eqb n 8 then reasons.UnknownType else
+    if eqb n 9 then reasons.NestedArray else
+    if eqb n 10 then reasons.TooManyDimensions else
+    if eqb n 11 then reasons.UnknownKind else
+    if eqb n 12 then reasons.KindAboveCeiling else
+    if eqb n 13 then reasons.ProductOverflow else
+    if eqb n 14 then reasons.SizeOverflow else
+    if eqb n 15 then reasons.TotalOverflow else
+    if eqb n 16 then reasons.Misaligned else
+    if eqb n 17 then reasons.PartialBlock else
+    if eqb n 18 then reasons.DataStartOverflow else
+    if eqb n 20 then reasons.PastTheFile else
+    if eqb n 30 then reasons.VersionNotWritten else
+    if eqb n 31 then reasons.BadSheet else
+    if eqb n 32 then reasons.BadAlignment else
+    if eqb n 33 then reasons.AlignmentTooLarge else
+    if eqb n 34 then reasons.OtherAlignment else
+    if eqb n 35 then reasons.KindNotWritten else
+    if eqb n 36 then reasons.OffsetOverflow else
+    if eqb n 37 then reasons.CountOverflow else
+    if eqb n 38 then reasons.OutputTooShort else
+    if eqb n 43 then reasons.BadTrace else
+    if eqb n 44 then reasons.TraceOverflow else
+    if eqb n 45 then reasons.NoAnswerRows else
+    reasons.CutOff
 
--- a text
-pub one-text : (x y : TextRead) → as_text x ≡ as_text y → x ≡ y
-one-text (FoundText a q) (FoundText b r) e = cc
-one-text (FoundText a q) (NoText m o) e = apart e
-one-text (NoText n p) (FoundText b r) e = apart (sym e)
-one-text (NoText n p) (NoText m o) e = cc
+-- a number tells its reason
+reason-back : (x : Reason) → reason_of (reason_number x) ≡ x
+reason-back reasons.CutOff = refl
+reason-back reasons.OlderFormat = refl
+reason-back reasons.NotGguf = refl
+reason-back reasons.UnknownVersion = refl
+reason-back reasons.VersionAboveCeiling = refl
+reason-back reasons.TooFewRows = refl
+reason-back reasons.StringTooLong = refl
+reason-back reasons.UnknownType = refl
+reason-back reasons.NestedArray = refl
+reason-back reasons.TooManyDimensions = refl
+reason-back reasons.UnknownKind = refl
+reason-back reasons.KindAboveCeiling = refl
+reason-back reasons.ProductOverflow = refl
+reason-back reasons.SizeOverflow = refl
+reason-back reasons.TotalOverflow = refl
+reason-back reasons.Misaligned = refl
+reason-back reasons.PartialBlock = refl
+reason-back reasons.DataStartOverflow = refl
+reason-back reasons.PastTheFile = refl
+reason-back reasons.VersionNotWritten = refl
+reason-back reasons.BadSheet = refl
+reason-back reasons.BadAlignment = refl
+reason-back reasons.AlignmentTooLarge = refl
+reason-back reasons.OtherAlignment = refl
+reason-back reasons.KindNotWritten = refl
+reason-back reasons.OffsetOverflow = refl
+reason-back reasons.CountOverflow = refl
+reason-back reasons.OutputTooShort = refl
+reason-back reasons.BadTrace = refl
+reason-back reasons.TraceOverflow = refl
+reason-back reasons.NoAnswerRows = refl
 
--- a key
-pub one_key : (x y : KeyRead) → as_key x ≡ as_key y → x ≡ y
-one_key (FoundKey a q) (FoundKey b r) e = cc
-one_key (FoundKey a q) (NoKey m o) e = apart e
-one_key (NoKey n p) (FoundKey b r) e = apart (sym e)
-one_key (NoKey n p) (NoKey m o) e = cc
+-- two reasons of one number
+one_reason : (x y : Reason) → reason_number x ≡ reason_number y → x ≡ y
+one_reason x y e = sym (reason-back x) ∙ ap reason_of e ∙ reason-back y
+
+-- two refusals of one number and one place
+one_refusal : (x y : Refusal) → reason_number x.why ≡ reason_number y.why → x.place ≡ y.place → x ≡ y
+one_refusal x y e f = rw (sym (one_reason x.why y.why e), f) refl
+
+-- what was read, whatever it is: a number, a text, a key, an array, a value, an entry, a shape, a
+-- kind with an offset, a tensor, a byte order, a version, or all before the first record
+pub one-answer : {A : Type 0} (x y : Result (A × ℕ) Refusal) → as_answer x ≡ as_answer y → x ≡ y
+one-answer (Ok a) (Ok b) e = let s = same_read a.0 b.0 a.1 b.1 e in rw (s.0, s.1) refl
+one-answer (Ok a) (Err y) e = apart e
+one-answer (Err x) (Ok b) e = apart (sym e)
+one-answer (Err x) (Err y) e = ap Err (one_refusal x y (cc) (cc))
 
 -- something that is passed
-pub one-passed : (x y : Passed) → as_passed x ≡ as_passed y → x ≡ y
-one-passed (FoundPassed h) (FoundPassed i) e = cc
-one-passed (FoundPassed h) (NoPassed m o) e = apart e
-one-passed (NoPassed n p) (FoundPassed i) e = apart (sym e)
-one-passed (NoPassed n p) (NoPassed m o) e = cc
-
--- an array
-pub one-array : (x y : ArrayRead) → as_array x ≡ as_array y → x ≡ y
-one-array (FoundArray a q) (FoundArray b r) e = cc
-one-array (FoundArray a q) (NoArray m o) e = apart e
-one-array (NoArray n p) (FoundArray b r) e = apart (sym e)
-one-array (NoArray n p) (NoArray m o) e = cc
-
--- a value
-pub one_value : (x y : ValueRead) → as_value x ≡ as_value y → x ≡ y
-one_value (FoundValue a q) (FoundValue b r) e = cc
-one_value (FoundValue a q) (NoValue m o) e = apart e
-one_value (NoValue n p) (FoundValue b r) e = apart (sym e)
-one_value (NoValue n p) (NoValue m o) e = cc
-
--- an entry
-pub one_entry : (x y : EntryRead) → as_entry x ≡ as_entry y → x ≡ y
-one_entry (FoundEntry a q) (FoundEntry b r) e = cc
-one_entry (FoundEntry a q) (NoEntry m o) e = apart e
-one_entry (NoEntry n p) (FoundEntry b r) e = apart (sym e)
-one_entry (NoEntry n p) (NoEntry m o) e = cc
-
--- a shape
-pub one-shape : (x y : ShapeRead) → as_shape x ≡ as_shape y → x ≡ y
-one-shape (FoundShape a q) (FoundShape b r) e = cc
-one-shape (FoundShape a q) (NoShape m o) e = apart e
-one-shape (NoShape n p) (FoundShape b r) e = apart (sym e)
-one-shape (NoShape n p) (NoShape m o) e = cc
-
--- a kind and an offset
-pub one-stored : (x y : KindAndOffsetRead) → as_kind_and_offset x ≡ as_kind_and_offset y → x ≡ y
-one-stored (FoundStored a q) (FoundStored b r) e = cc
-one-stored (FoundStored a q) (NoStored m o) e = apart e
-one-stored (NoStored n p) (FoundStored b r) e = apart (sym e)
-one-stored (NoStored n p) (NoStored m o) e = cc
-
--- a tensor
-pub one-tensor : (x y : TensorRead) → as_tensor x ≡ as_tensor y → x ≡ y
-one-tensor (FoundTensor a q) (FoundTensor b r) e = cc
-one-tensor (FoundTensor a q) (NoTensor m o) e = apart e
-one-tensor (NoTensor n p) (FoundTensor b r) e = apart (sym e)
-one-tensor (NoTensor n p) (NoTensor m o) e = cc
-
--- a byte order
-pub one-magic : (x y : MagicRead) → as_magic x ≡ as_magic y → x ≡ y
-one-magic (FoundMagic a q) (FoundMagic b r) e = cc
-one-magic (FoundMagic a q) (NoMagic m o) e = apart e
-one-magic (NoMagic n p) (FoundMagic b r) e = apart (sym e)
-one-magic (NoMagic n p) (NoMagic m o) e = cc
-
--- a version
-pub one-version : (x y : VersionRead) → as_version x ≡ as_version y → x ≡ y
-one-version (FoundVersion a q) (FoundVersion b r) e = cc
-one-version (FoundVersion a q) (NoVersion m o) e = apart e
-one-version (NoVersion n p) (FoundVersion b r) e = apart (sym e)
-one-version (NoVersion n p) (NoVersion m o) e = cc
-
--- all before the first record
-pub one-start : (x y : StartRead) → as_start x ≡ as_start y → x ≡ y
-one-start (FoundStart a q) (FoundStart b r) e = cc
-one-start (FoundStart a q) (NoStart m o) e = apart e
-one-start (NoStart n p) (FoundStart b r) e = apart (sym e)
-one-start (NoStart n p) (NoStart m o) e = cc
+pub one-passed : (x y : Result ℕ Refusal) → as_passed x ≡ as_passed y → x ≡ y
+one-passed (Ok p) (Ok q) e = cc
+one-passed (Ok p) (Err y) e = apart e
+one-passed (Err x) (Ok q) e = apart (sym e)
+one-passed (Err x) (Err y) e = ap Err (one_refusal x y (cc) (cc))
 
 -- a header
-pub one-header : (x y : HeaderRead) → as_header x ≡ as_header y → x ≡ y
-one-header (FoundHeader h) (FoundHeader i) e = cc
-one-header (FoundHeader h) (NoHeader m o) e = apart e
-one-header (NoHeader n p) (FoundHeader i) e = apart (sym e)
-one-header (NoHeader n p) (NoHeader m o) e = cc
+pub one-header : (x y : Result Header Refusal) → as_header x ≡ as_header y → x ≡ y
+one-header (Ok h) (Ok i) e = cc
+one-header (Ok h) (Err y) e = apart e
+one-header (Err x) (Ok i) e = apart (sym e)
+one-header (Err x) (Err y) e = ap Err (one_refusal x y (cc) (cc))
+
+-- a whole call
+pub one-reply : {A : Type 0} (x y : Result A Refusal) → as_reply x ≡ as_reply y → x ≡ y
+one-reply (Ok a) (Ok b) e = cc
+one-reply (Ok a) (Err y) e = let z : ◌≡◌ {A = ℕ} 0 1 = cc in absurd (omega arith)
+one-reply (Err x) (Ok b) e = let z : ◌≡◌ {A = ℕ} 0 1 = cc in absurd (omega arith)
+one-reply (Err x) (Err y) e = ap Err (one_refusal x y (cc) (cc))
+
+-- an answer whose refusals have no place
+pub one-result : {A : Type 0} (x y : Result A Reason) → as_result x ≡ as_result y → x ≡ y
+one-result (Ok a) (Ok b) e = ap Ok (same_ok a b e)
+one-result (Ok a) (Err y) e = let z : ◌≡◌ {A = ℕ} 0 1 = cc in absurd (omega arith)
+one-result (Err x) (Ok b) e = let z : ◌≡◌ {A = ℕ} 0 1 = cc in absurd (omega arith)
+one-result (Err x) (Err y) e = ap Err (one_reason x y (same_err _ _ e))
 
 -- a width, and the width of a scalar
 one_size : (x y : Width) → width_of x ≡ width_of y → x ≡ y
@@ -182,8 +172,8 @@ some_size Two e = omega arith
 some_size Four e = omega arith
 some_size Eight e = omega arith
 
-pub one_width : (x y : ScalarWidth) → as_width x ≡ as_width y → x ≡ y
-one_width (Of x) (Of y) e = ap Of (one_size x y e)
-one_width (Of x) None e = absurd (some_size x e)
-one_width None (Of y) e = absurd (some_size y (sym e))
+pub one_width : (x y : Option Width) → as_width x ≡ as_width y → x ≡ y
+one_width (Some x) (Some y) e = ap Some (one_size x y e)
+one_width (Some x) None e = absurd (some_size x e)
+one_width None (Some y) e = absurd (some_size y (sym e))
 one_width None None e = refl

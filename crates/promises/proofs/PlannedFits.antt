@@ -1,6 +1,7 @@
 -- A header that was planned can be written: each number fits its field, and what a reader tests
 -- holds. Assumes nothing.
-use Rattle.std.specs.Prelude.{if◌then◌else◌}
+use Rattle.reading.specs.Replies.{Reply, gives, refuses}
+use Rattle.std.specs.Prelude.{if◌then◌else◌, Result, Ok, Err}
 use Prim.Native.Nat.{ℕ, suc, ◌%◌, ◌^◌, ◌≤◌, ◌<◌, max}
 use mathlib.Core.Path.{◌≡◌, refl, ap, subst, ◌∙◌}
 use mathlib.Core.Bool.{Bool, true, false}
@@ -18,7 +19,6 @@ use Rattle.kinds.specs.Shape.{greatest}
 use Rattle.kinds.proofs.KindTable.{written_known}
 use Rattle.layout.specs.declared.Laid.{Laid}
 use Rattle.layout.specs.declared.Placed.{Placed}
-use Rattle.layout.specs.declared.Placed.TheVariants.{At, Refused as NotPlaced}
 use Rattle.layout.specs.Layout.{nothing_laid, end_after, place_of, layout_from}
 use Rattle.layout.specs.Padding.{is_multiple}
 use Rattle.layout.proofs.Padding.{padded-multiple}
@@ -35,7 +35,6 @@ use Rattle.header.specs.Contents.{header_bytes, alignment_in, FitsContents}
 use Rattle.sheet.specs.Format.{SheetEntry, SheetTensor}
 use Rattle.sheet.proofs.SheetFits.{sheet_fits, drawn_fit}
 use Rattle.plan.specs.declared.Plan.{Plan}
-use Rattle.plan.specs.declared.LaidOut.TheVariants.{Fits, Refused as NotLaid}
 use Rattle.plan.specs.Header.{own_alignment, adds, alignment_entry, inserted, entry_in, entries_with, entries_of, piece_of, laid_with, laid_from, header_contents, end_of, start_of}
 use Rattle.plan.specs.Plan.{can_add, laid_of, counts_fit}
 use Rattle.plan.proofs.Drafts.{padded-not-below}
@@ -78,24 +77,26 @@ entries_fit k a es can all = by (adds a (own_alignment es)) refl
 abbrev FitsDrawn : SheetTensor → Type 0
 FitsDrawn t = Short t.name × FitsShape t.parts.shape × Within 4 t.parts.kind
 
-not-refused : {w i : ℕ} → Fits ≡ NotLaid w i → ⊥
+not-refused : {w i : ℕ} → ◌≡◌ {A = Reply (Unit {0})} (gives tt) (refuses w i) → ⊥
 not-refused e = let z : ◌≡◌ {A = ℕ} 0 1 = cc in omega arith
 
 -- tensors that can be laid after others fit there
-weights_fit : (a : ℕ) (laid : Laid) (i : ℕ) (ts : List SheetTensor) → laid.next ≤ greatest → Fits ≡ laid_of (layout_from a laid i (map piece_of ts)) → All FitsDrawn ts
+weights_fit : (a : ℕ) (laid : Laid) (i : ℕ) (ts : List SheetTensor) → laid.next ≤ greatest → gives tt ≡ laid_of (layout_from a laid i (map piece_of ts)) → All FitsDrawn ts
     → Along FitsTensor total_with laid.total (laid_from a laid ts)
 weights_fit a laid i [] low fits all = tt
 weights_fit a laid i (t ∷ ts) low fits all =
     by (place_of a laid (lengths t.parts.shape) t.parts.kind) refl (λ h others. weights_fit a (laid_with a laid t) (suc i) ts h others all.1)
   where
-    by : (p : Placed) → place_of a laid (lengths t.parts.shape) t.parts.kind ≡ p
-        → ((laid_with a laid t).next ≤ greatest → Fits ≡ laid_of (layout_from a (laid_with a laid t) (suc i) (map piece_of ts)) → Along FitsTensor total_with (laid_with a laid t).total (laid_from a (laid_with a laid t) ts))
+    by : (p : Result Placed ℕ) → place_of a laid (lengths t.parts.shape) t.parts.kind ≡ p
+        → ((laid_with a laid t).next ≤ greatest → gives tt ≡ laid_of (layout_from a (laid_with a laid t) (suc i) (map piece_of ts)) → Along FitsTensor total_with (laid_with a laid t).total (laid_from a (laid_with a laid t) ts))
         → Along FitsTensor total_with laid.total (laid_from a laid (t ∷ ts))
-    by (At o s after) e next =
+    by (Ok x) e next =
+        let o = x.offset in
+        let after = x.laid in
         let low_fits : Within 8 laid.next = omega arith in
         let p = placed_by a laid (lengths t.parts.shape) t.parts.kind e in
         let rest = fits ∙ ap laid_of (layout_goes_on a laid i (piece_of t) (map piece_of ts) e) ∙ laid-ahead o (layout_from a after (suc i) (map piece_of ts)) in
-        let others : Fits ≡ laid_of (layout_from a (laid_with a laid t) (suc i) (map piece_of ts)) = subst (λ (l : Laid). Fits ≡ laid_of (layout_from a l (suc i) (map piece_of ts))) p.then rest in (
+        let others : gives tt ≡ laid_of (layout_from a (laid_with a laid t) (suc i) (map piece_of ts)) = subst (λ (l : Laid). (gives tt) ≡ laid_of (layout_from a l (suc i) (map piece_of ts))) p.then rest in (
           record {
             name = all.0.0;
             shape = all.0.1;
@@ -110,7 +111,7 @@ weights_fit a laid i (t ∷ ts) low fits all =
           },
           next p.padding others,
         )
-    by (NotPlaced w) e next = absurd (not-refused (fits ∙ ap laid_of (layout_stops a laid i (piece_of t) (map piece_of ts) e)))
+    by (Err w) e next = absurd (not-refused (fits ∙ ap laid_of (layout_stops a laid i (piece_of t) (map piece_of ts) e)))
 
 -- and their offsets are multiples of the alignment: the first is 0, and each next one is padded
 weights_aligned : (a : ℕ) → 0 < a → (laid : Laid) → laid.next % a ≡ 0 → (ts : List SheetTensor) → All (λ (t : TensorContent). is_multiple a t.offset ≡ true) (laid_from a laid ts)

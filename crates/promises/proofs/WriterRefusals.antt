@@ -1,6 +1,8 @@
 -- Every refusal of the writer, of the layout and of the range check is one of those listed, at one
 -- of its places: each test refuses so, or leaves it to those after it. Assumes nothing.
-use Rattle.std.specs.Prelude.{if◌then◌else◌}
+use Rattle.plan.specs.declared.Plan.{Plan}
+use Rattle.reading.specs.Replies.{Reply, gives, refuses}
+use Rattle.std.specs.Prelude.{if◌then◌else◌, Result, Ok, Err}
 use Prim.Native.Nat.{ℕ, zero, suc, ◌+◌, ◌^◌, ◌≤◌, ◌<◌, max}
 use mathlib.Core.Path.{◌≡◌, refl, subst}
 use mathlib.Core.Bool.{Bool, true, false}
@@ -22,7 +24,6 @@ use Rattle.layout.specs.Padding.{padded}
 use Rattle.layout.specs.Layout.{Piece, Layout, laid_out_from, refused_at, ahead, followed_by, end_after, place_of, layout_from, layout_of, nothing_laid}
 use Rattle.layout.specs.declared.Laid.{Laid}
 use Rattle.layout.specs.declared.Placed.{Placed}
-use Rattle.layout.specs.declared.Placed.TheVariants.{At, Refused as NotPlaced}
 use Rattle.scalars.specs.Scalars.{scalar_width}
 use Rattle.tensors.specs.Format.{length_at, lengths_of}
 use Rattle.values.specs.declared.Dialect.{Dialect}
@@ -31,7 +32,6 @@ use Rattle.start.specs.Contents.{start_bytes}
 use Rattle.start.specs.Format.{known_dialect}
 use Rattle.header.specs.Contents.{header_bytes}
 use Rattle.header.specs.Format.{is_alignment_lem}
-use Rattle.ranges.specs.declared.RangeCheck.TheVariants.{Refused as Outside}
 use Rattle.ranges.specs.Ranges.{check_from}
 use Rattle.ranges.proofs.Meaning.{refused-first}
 use Rattle.sheet.specs.Format.{bytes, text_of, text, scalar, value, opening, framed, entry_body, metadata, shape, tensor_body, tensor}
@@ -39,14 +39,11 @@ use Rattle.sheet.specs.Sheet.{consed, as_many_as, no_key, next, key_of, is_metad
 use Rattle.sheet.proofs.ManyEntries.{tag_inside}
 use Rattle.sheet.proofs.PartsFound.{entry-ends}
 use Rattle.sheet.proofs.WholeSheet.{tensor-on, sheet_entries, sheet_tensors, sheet_ended}
-use Rattle.plan.specs.declared.Planned.{Planned}
-use Rattle.plan.specs.declared.Planned.TheVariants.{Fine, Refused}
 use Rattle.plan.specs.Header.{own_alignment, adds, entries_of, piece_of, records_in, start_of}
 use Rattle.plan.specs.Plan.{require_formed, require_laid, can_add, agrees, laid_of, counts_fit, plan_for}
 use Rattle.plan.specs.Steps.{aligned}
 use Rattle.plan.proofs.Drafts.{entries-count}
 use Rattle.writer.specs.Output.{written_of}
-use Rattle.writer.specs.declared.HeaderWritten.TheVariants.{Refused as NotWritten}
 use Rattle.promises.specs.Back.{answer_for}
 use Rattle.reading.proofs.RefusalLaws.{listed_too}
 use Rattle.promises.specs.Refusals.{layout_refusals, layout_refusal, writer_refusals, writer_refusal, places_of, Listed, Given}
@@ -59,9 +56,9 @@ by-test P false refusal rest h others = h refl
 -- The layout.
 
 -- a place, or a listed refusal
-abbrev ListedPlace : Placed → Type 0
-ListedPlace (At offset size laid) = Unit {0}
-ListedPlace (NotPlaced n) = layout_refusal n ≡ true
+abbrev ListedPlace : Result Placed ℕ → Type 0
+ListedPlace (Ok x) = Unit {0}
+ListedPlace (Err n) = layout_refusal n ≡ true
 
 place-listed : (a : ℕ) (laid : Laid) (shape : List ℕ) (kind : ℕ) → ListedPlace (place_of a laid shape kind)
 unfolding place_of
@@ -83,9 +80,9 @@ ahead-listed : (e offset : ℕ) (l : Layout) → ListedLayout e l → ListedLayo
 ahead-listed e offset (laid_out_from offsets laid) h = tt
 ahead-listed e offset (refused_at n i) h = h
 
-followed-listed : (e i : ℕ) (p : Placed) (rest : Laid → Layout) → i < e → ListedPlace p → ((laid : Laid) → ListedLayout e (rest laid)) → ListedLayout e (followed_by p i rest)
-followed-listed e i (At offset size laid) rest low h others = ahead-listed e offset (rest laid) (others laid)
-followed-listed e i (NotPlaced n) rest low h others = (h, low)
+followed-listed : (e i : ℕ) (p : Result Placed ℕ) (rest : Laid → Layout) → i < e → ListedPlace p → ((laid : Laid) → ListedLayout e (rest laid)) → ListedLayout e (followed_by p i rest)
+followed-listed e i (Ok x) rest low h others = ahead-listed e x.offset (rest x.laid) (others x.laid)
+followed-listed e i (Err n) rest low h others = (h, low)
 
 from_listed : (a : ℕ) (laid : Laid) (e i : ℕ) (pieces : List Piece) → i + length pieces ≤ e → ListedLayout e (layout_from a laid i pieces)
 unfolding layout_from
@@ -102,7 +99,7 @@ layout_refusals_listed a pieces h = subst (ListedLayout (length pieces)) h (from
 -- The range check.
 
 -- for any start, any file and any rows: the refusal is 20, and its place the number of one of them
-pub range_refusals_listed : (start file : ℕ) (rows : List (List ℕ)) {n i : ℕ} → check_from start file 0 rows ≡ Outside n i → (n ≡ 20) × (i < length rows)
+pub range_refusals_listed : (start file : ℕ) (rows : List (List ℕ)) {n i : ℕ} → check_from start file 0 rows ≡ refuses n i → (n ≡ 20) × (i < length rows)
 range_refusals_listed start file rows {n} {i} h = let f = refused-first start file rows n i h in (f.0, f.1.there)
 
 -- The sheet.
@@ -184,16 +181,16 @@ laid-number : (n : ℕ) → layout_refusal n ≡ true → writer_refusal n ≡ t
 laid-number n h = listed_too n layout_refusals writer_refusals refl h
 
 -- a plan, or a listed refusal, for a sheet of so many bytes and tensors
-abbrev ListedPlan : ℕ → ℕ → Planned → Type 0
-ListedPlan bytes tensors (Fine plan) = Unit {0}
-ListedPlan bytes tensors (Refused n p) = Listed bytes tensors n p
+abbrev ListedPlan : ℕ → ℕ → Reply Plan → Type 0
+ListedPlan bytes tensors (gives plan) = Unit {0}
+ListedPlan bytes tensors (refuses n p) = Listed bytes tensors n p
 
 -- a refusal that has the place 0 alone, and is not 37
 at_zero : (bytes tensors n : ℕ) → writer_refusal n ≡ true → places_of bytes tensors n ≡ 1 → eqb n 37 ≡ false → Listed bytes tensors n 0
 at_zero bytes tensors n number places other =
     record { number = number; place = rw places (omega arith); long = λ e. absurd (eqb-false n 37 other e) }
 
-laid-listed : (bytes tensors : ℕ) (l : Layout) (rest : Planned) → ListedLayout tensors l → ListedPlan bytes tensors rest → ListedPlan bytes tensors (require_laid (laid_of l) rest)
+laid-listed : (bytes tensors : ℕ) (l : Layout) (rest : Reply Plan) → ListedLayout tensors l → ListedPlan bytes tensors rest → ListedPlan bytes tensors (require_laid (laid_of l) rest)
 laid-listed bytes tensors (laid_out_from offsets laid) rest h others = others
 laid-listed bytes tensors (refused_at n i) rest h others =
     let never : n ≡ 37 → ⊥ = λ e. let z : layout_refusal 37 ≡ true = subst (λ m. layout_refusal m ≡ true) e h.0 in let y : ◌≡◌ {A = ℕ} 0 1 = cc in omega arith in
@@ -206,7 +203,7 @@ formed-listed k a room s (refused n p) is h = record { number = refl; place = om
 formed-listed k a room s (accepted c e) is h =
     let bytes : ℕ = length s in
     let tensors : ℕ = length c.tensors in
-    let P : Planned → Type 0 = ListedPlan (length s) (length c.tensors) in
+    let P : Reply Plan → Type 0 = ListedPlan (length s) (length c.tensors) in
     let same : 0 + length (map piece_of c.tensors) ≤ length c.tensors = omega (arith, length-map c.tensors piece_of) in
     by-test P (is_alignment_lem a) _ _ (λ t. at_zero bytes tensors 32 refl refl refl)
     (by-test P (can_add a (own_alignment c.entries)) _ _ (λ t. at_zero bytes tensors 33 refl refl refl)
@@ -221,16 +218,16 @@ plan-listed k a room s =
     by-test (ListedPlan (length s) (length (records_in (sheet_of s)).tensors)) (known_dialect k) _ _ (λ t. at_zero _ _ 30 refl refl refl)
     (formed-listed k a room s (sheet_of s) refl (sheet_up_to s))
 
-refused-plan : (bytes tensors : ℕ) (p : Planned) {n i : ℕ} → written_of p ≡ NotWritten n i → ListedPlan bytes tensors p → Listed bytes tensors n i
-refused-plan bytes tensors (Fine plan) e h = let z : ◌≡◌ {A = ℕ} 0 1 = cc in absurd (omega arith)
-refused-plan bytes tensors (Refused m j) {n} {i} e h =
+refused-plan : (bytes tensors : ℕ) (p : Reply Plan) {n i : ℕ} → written_of p ≡ refuses n i → ListedPlan bytes tensors p → Listed bytes tensors n i
+refused-plan bytes tensors (gives plan) e h = let z : ◌≡◌ {A = ℕ} 0 1 = cc in absurd (omega arith)
+refused-plan bytes tensors (refuses m j) {n} {i} e h =
     let same : m ≡ n = cc in
     let at : j ≡ i = cc in
     rw (← same, ← at) h
 
 -- for any version, byte order, alignment, record sheet and output: the refusal is a listed one, at
 -- one of its places, and 37 takes a sheet of 2 ^ 32 bytes
-pub writer_refusals_listed : (k : Dialect) (a : ℕ) (s out : List ℕ) {n p : ℕ} → answer_for k a s out ≡ NotWritten n p → Listed (length s) (length (records_in (sheet_of s)).tensors) n p
+pub writer_refusals_listed : (k : Dialect) (a : ℕ) (s out : List ℕ) {n p : ℕ} → answer_for k a s out ≡ refuses n p → Listed (length s) (length (records_in (sheet_of s)).tensors) n p
 writer_refusals_listed k a s out h = refused-plan _ _ (plan_for k a (length out) s) h (plan-listed k a (length out) s)
 
 -- Each other number is given.

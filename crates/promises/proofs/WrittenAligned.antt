@@ -6,6 +6,7 @@ use mathlib.Core.List.{List, [], ◌++◌}
 use mathlib.Core.Logic.{inl, inr}
 use native.Mathlib.Omega.{arith}
 use lib.ListN.{length, replicate, length-replicate}
+use Rattle.writer.specs.Output.{written_at}
 use Rattle.reading.specs.Back.{All}
 use Rattle.reading.specs.Ceilings.{too_new, under, marks}
 use Rattle.reading.specs.Reading.{Which, a_version, a_kind, accepted, refused, run}
@@ -19,7 +20,6 @@ use Rattle.header.specs.Answers.{reader_outcome}
 use Rattle.header.specs.Format.{FullHeader, header}
 use Rattle.header.proofs.HeaderCeilings.{full_reader}
 use Rattle.header.proofs.MoreRows.{ButForSix, more_rows}
-use Rattle.writer.specs.declared.HeaderWritten.TheVariants.{Written}
 use Rattle.promises.specs.Back.{answer_for, output_for, contents_for}
 use Rattle.promises.proofs.WrittenReadsBack.{written-reads-back}
 
@@ -34,7 +34,7 @@ rooms_of es ts e t = rw (e, t) refl
 
 -- For any record sheet, version, byte order, alignment and output, where the header was written, and
 -- whatever follows it.
-module _ (k : Dialect) (a : ℕ) (s out : List ℕ) (bytes : All Byte s) (small : length out < 2 ^ 64) {end start : ℕ} (wrote : Written end start ≡ answer_for k a s out) (r : List ℕ) where
+module _ (k : Dialect) (a : ℕ) (s out : List ℕ) (bytes : All Byte s) (small : length out < 2 ^ 64) {end start : ℕ} (wrote : written_at end start ≡ answer_for k a s out) (r : List ℕ) where
   -- so many rows and, beside them, one for each record
   abbrev enough_with : Rooms → Rooms
   enough_with rooms = record { entries = rooms.entries + length (contents_for a s).entries; tensors = rooms.tensors + length (contents_for a s).tensors }

@@ -5,6 +5,7 @@ use mathlib.Core.Path.{◌≡◌, refl, sym, ap, ◌∙◌}
 use mathlib.Core.List.{List, ◌++◌, map}
 use native.Mathlib.Omega.{arith}
 use lib.ListN.{length, length-map}
+use Rattle.writer.specs.Output.{written_at}
 use Rattle.reading.specs.Back.{All}
 use Rattle.fields.specs.Bytes.{Byte}
 use Rattle.reading.specs.Reading.{Answer, accepted, refused, seen}
@@ -17,7 +18,6 @@ use Rattle.header.specs.Answers.{reader_run}
 use Rattle.header.specs.Contents.{Summary, summary_in, dialect_of}
 use Rattle.header.specs.Format.{FullHeader}
 use Rattle.header.proofs.Counted.{counted}
-use Rattle.writer.specs.declared.HeaderWritten.TheVariants.{Written}
 use Rattle.promises.specs.Back.{answer_for, output_for, contents_for, Enough}
 use Rattle.promises.proofs.WrittenReadsBack.{written-reads-back}
 
@@ -54,7 +54,7 @@ told-head cap es ts s (refused n p) e h = let z : ◌≡◌ {A = ℕ} 0 1 = cc i
 
 -- for any record sheet, version, byte order, alignment and output, where the header was written:
 -- its version and byte order, its counts, the alignment, its end and its start
-pub written-answer : (k : Dialect) (a : ℕ) (s out : List ℕ) → All Byte s → length out < 2 ^ 64 → {end start : ℕ} → Written end start ≡ answer_for k a s out
+pub written-answer : (k : Dialect) (a : ℕ) (s out : List ℕ) → All Byte s → length out < 2 ^ 64 → {end start : ℕ} → written_at end start ≡ answer_for k a s out
     → (cap : ℕ) (es ts : List (List ℕ)) → Enough a s es ts → (r : List ℕ)
     → seen (λ (w : FullHeader). w.head) (reader_run full cap es ts (output_for k a s out ++ r)) ≡ accepted (record {
       version = k.version;

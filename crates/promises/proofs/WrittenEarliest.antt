@@ -4,6 +4,7 @@ use Prim.Native.Nat.{ℕ, ◌^◌, ◌<◌}
 use mathlib.Core.Path.{◌≡◌, sym, ap, ◌∙◌}
 use mathlib.Core.List.{List, ◌++◌, map, map-map}
 use lib.ListN.{length, take}
+use Rattle.writer.specs.Output.{written_at}
 use Rattle.reading.specs.Back.{All}
 use Rattle.reading.specs.Ceilings.{full}
 use Rattle.fields.specs.Bytes.{Byte}
@@ -11,14 +12,13 @@ use Rattle.rows.specs.Columns.{offset_in, size_in}
 use Rattle.values.specs.declared.Dialect.{Dialect}
 use Rattle.tensors.specs.Contents.{TensorContent}
 use Rattle.header.specs.Answers.{Outcome, reader_outcome}
-use Rattle.writer.specs.declared.HeaderWritten.TheVariants.{Written}
 use Rattle.promises.specs.Back.{answer_for, output_for, contents_for, offsets_in, sizes_in, Enough}
 use Rattle.promises.specs.RowContents.{tensor_in_row, SaysSheet, RowsEarliest}
 use Rattle.promises.proofs.Offsets.{offsets-earliest}
 use Rattle.promises.proofs.WrittenTables.{written_tables}
 
 -- For any record sheet, version, byte order, alignment and output, where the header was written.
-module _ (k : Dialect) (a : ℕ) (s out : List ℕ) {end start : ℕ} (wrote : Written end start ≡ answer_for k a s out) where
+module _ (k : Dialect) (a : ℕ) (s out : List ℕ) {end start : ℕ} (wrote : written_at end start ≡ answer_for k a s out) where
   -- an answer and tables that say the sheet
   pub rows-earliest : (es ts : List (List ℕ)) (bytes : List ℕ) (o : Outcome) → SaysSheet k a s end start es ts bytes o → RowsEarliest a (take (length (contents_for a s).tensors) o.tensors)
   rows-earliest es ts bytes o says =

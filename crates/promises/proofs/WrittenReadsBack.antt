@@ -1,11 +1,14 @@
 -- What the writer wrote reads back, and one sheet reads back the same from every version: a header
 -- that was planned can be written, so the laws of the format's own bytes hold of it. Assumes
 -- nothing.
+use Rattle.reading.proofs.Sames.{same_given}
 use Prim.Native.Nat.{ℕ, ◌-◌, ◌^◌, ◌≤◌, ◌<◌}
 use mathlib.Core.Path.{◌≡◌, refl, sym, ap, subst, ◌∙◌}
 use mathlib.Core.List.{List, ◌++◌, append_assoc}
 use native.Mathlib.Omega.{arith}
 use lib.ListN.{length, drop, replicate}
+use Rattle.reading.specs.Replies.{Reply, gives, refuses}
+use Rattle.writer.specs.Output.{written_at}
 use Rattle.reading.specs.Back.{All}
 use Rattle.fields.specs.Bytes.{Byte}
 use Rattle.reading.specs.Reading.{accepted}
@@ -13,11 +16,8 @@ use Rattle.values.specs.declared.Dialect.{Dialect}
 use Rattle.header.specs.Contents.{Contents, header_bytes, summary_of}
 use Rattle.header.proofs.HeaderBack.{reader_back}
 use Rattle.plan.specs.declared.Plan.{Plan}
-use Rattle.plan.specs.declared.Planned.{Planned}
-use Rattle.plan.specs.declared.Planned.TheVariants.{Fine, Refused}
 use Rattle.plan.specs.Header.{header_contents, records_in, end_of, start_of}
 use Rattle.plan.specs.Plan.{plan_for}
-use Rattle.writer.specs.declared.HeaderWritten.TheVariants.{Written}
 use Rattle.writer.specs.Output.{written_of, header_for, left_by}
 use Rattle.writer.proofs.Planned.{PlannedBy, planned-by}
 use Rattle.promises.specs.Back.{answer_for, output_for, read_in, contents_for, summary_for, Enough, SameOrder, versionless}
@@ -48,22 +48,23 @@ module _ {k : Dialect} {a room : ℕ} {s : List ℕ} {plan : Plan} (all : All By
 -- the plan of what was written
 pub record Writing (k : Dialect) (a : ℕ) (s out : List ℕ) (end start : ℕ) : Type 0 where
   pub plan : Plan
-  pub fine : Fine plan ≡ plan_for k a (length out) s
+  pub fine : gives plan ≡ plan_for k a (length out) s
   pub ends : plan.end ≡ end
   pub starts : plan.start ≡ start
 
-wrote_by : (k : Dialect) (a : ℕ) (s out : List ℕ) (p : Planned) → p ≡ plan_for k a (length out) s → {end start : ℕ} → Written end start ≡ written_of p → Writing k a s out end start
-wrote_by k a s out (Fine plan) e {end} {start} h =
-    let ends : plan.end ≡ end = cc in
-    let starts : plan.start ≡ start = cc in
+wrote_by : (k : Dialect) (a : ℕ) (s out : List ℕ) (p : Reply Plan) → p ≡ plan_for k a (length out) s → {end start : ℕ} → written_at end start ≡ written_of p → Writing k a s out end start
+wrote_by k a s out (gives plan) e {end} {start} h =
+    let both = same_given _ _ (sym h) in
+    let ends : plan.end ≡ end = ap (λ x. x.end) both in
+    let starts : plan.start ≡ start = ap (λ x. x.start) both in
     record { plan = plan; fine = e; ends = ends; starts = starts }
-wrote_by k a s out (Refused n q) e h = let z : ◌≡◌ {A = ℕ} 0 1 = cc in absurd (omega arith)
+wrote_by k a s out (refuses n q) e h = let z : ◌≡◌ {A = ℕ} 0 1 = cc in absurd (omega arith)
 
-pub wrote-plan : (k : Dialect) (a : ℕ) (s out : List ℕ) {end start : ℕ} → Written end start ≡ answer_for k a s out → Writing k a s out end start
+pub wrote-plan : (k : Dialect) (a : ℕ) (s out : List ℕ) {end start : ℕ} → written_at end start ≡ answer_for k a s out → Writing k a s out end start
 wrote-plan k a s out h = wrote_by k a s out (plan_for k a (length out) s) refl h
 
 -- What was written, for any record sheet, version, byte order, alignment and output.
-module _ (k : Dialect) (a : ℕ) (s out : List ℕ) (bytes : All Byte s) (small : length out < 2 ^ 64) {end start : ℕ} (wrote : Written end start ≡ answer_for k a s out) where
+module _ (k : Dialect) (a : ℕ) (s out : List ℕ) (bytes : All Byte s) (small : length out < 2 ^ 64) {end start : ℕ} (wrote : written_at end start ≡ answer_for k a s out) where
   -- the header alone reads back, whatever follows it
   pub header-reads-back : (cap : ℕ) (es ts : List (List ℕ)) → Enough a s es ts → (r : List ℕ) → read_in cap es ts (header_for k a s ++ r) ≡ accepted (summary_for k a s end start) end
   header-reads-back cap es ts rows r =
@@ -76,14 +77,14 @@ module _ (k : Dialect) (a : ℕ) (s out : List ℕ) (bytes : All Byte s) (small 
   written-reads-back cap es ts rows r =
       let w = wrote-plan k a s out wrote in
       let gap : List ℕ = replicate (w.plan.start - w.plan.end) 0 in
-      let left : output_for k a s out ≡ left_by (Fine w.plan) (header_for k a s) out = ap (λ p. left_by p (header_for k a s) out) (sym w.fine) in
+      let left : output_for k a s out ≡ left_by (gives w.plan) (header_for k a s) out = ap (λ p. left_by p (header_for k a s) out) (sym w.fine) in
       let same : output_for k a s out ++ r ≡ header_for k a s ++ (gap ++ (drop w.plan.start out ++ r)) = ap (λ l. l ++ r) left ∙ rw (append_assoc, append_assoc) in
       subst (λ l. read_in cap es ts l ≡ accepted (summary_for k a s end start) end) (sym same) (header-reads-back cap es ts rows (gap ++ (drop w.plan.start out ++ r)))
 
 -- One sheet at one alignment, written twice, in two versions of one byte order: what is read of
 -- both is the same but for the version, the header's end and the start of its data.
 pub versions_never_lie : (k k' : Dialect) (a : ℕ) (s out out' : List ℕ) → All Byte s → length out < 2 ^ 64 → length out' < 2 ^ 64 → SameOrder k k'
-    → {end start end' start' : ℕ} → Written end start ≡ answer_for k a s out → Written end' start' ≡ answer_for k' a s out'
+    → {end start end' start' : ℕ} → written_at end start ≡ answer_for k a s out → written_at end' start' ≡ answer_for k' a s out'
     → (cap : ℕ) (es ts : List (List ℕ)) → Enough a s es ts → (r r' : List ℕ)
     → versionless (read_in cap es ts (output_for k a s out ++ r)) ≡ versionless (read_in cap es ts (output_for k' a s out' ++ r'))
 versions_never_lie k k' a s out out' bytes small small' order wrote wrote' cap es ts rows r r' =

@@ -6,6 +6,7 @@ use mathlib.Core.List.{List, ◌++◌, map}
 use native.Mathlib.Omega.{arith}
 use lib.ListN.{length, take, drop, length-map}
 use lib.Seq.{take-append_seam, drop-append_seam}
+use Rattle.writer.specs.Output.{written_at}
 use Rattle.reading.specs.Back.{All}
 use Rattle.reading.specs.Ceilings.{full}
 use Rattle.reading.specs.Reading.{Answer, accepted, refused, seen}
@@ -18,7 +19,6 @@ use Rattle.tensors.specs.Rows.{tensor_row}
 use Rattle.header.specs.Answers.{Outcome, reader_run, outcome_of, reader_outcome}
 use Rattle.header.specs.Contents.{Summary, summary_in, dialect_of}
 use Rattle.header.specs.Format.{FullHeader}
-use Rattle.writer.specs.declared.HeaderWritten.TheVariants.{Written}
 use Rattle.promises.specs.Back.{answer_for, output_for, contents_for, summary_for, Enough, SameOrder, versionless}
 use Rattle.promises.specs.RowContents.{entry_in_row, tensor_in_row, head_for, SaysSheet, summary_in_tables, tables_tell}
 use Rattle.promises.proofs.RowsSay.{values_in_rows, entries-said, tensors-said}
@@ -65,7 +65,7 @@ module _ (k : Dialect) (a : ℕ) (s : List ℕ) (end start cap : ℕ) (es ts : L
 -- For any record sheet, version, byte order, alignment and output, where the header was written:
 -- whatever follows the output, with any cap, and with any tables that have a row for each record,
 -- the reader's answer and both its tables say the sheet.
-pub written_tables : (k : Dialect) (a : ℕ) (s out : List ℕ) → All Byte s → length out < 2 ^ 64 → {end start : ℕ} → Written end start ≡ answer_for k a s out
+pub written_tables : (k : Dialect) (a : ℕ) (s out : List ℕ) → All Byte s → length out < 2 ^ 64 → {end start : ℕ} → written_at end start ≡ answer_for k a s out
     → (cap : ℕ) (es ts : List (List ℕ)) → Enough a s es ts → (r : List ℕ)
     → SaysSheet k a s end start es ts (output_for k a s out ++ r) (reader_outcome full cap es ts (output_for k a s out ++ r))
 written_tables k a s out bytes small {end} {start} wrote cap es ts rows r =
@@ -83,7 +83,7 @@ sheet_told k a s end start es ts bytes o says = ap (seen (summary_in_tables byte
 -- types and values; names, shapes, kinds, offsets and sizes; the alignment) but for the version,
 -- the header's end and the start of its data.
 pub versions_never_lie_in_tables : (k k' : Dialect) (a : ℕ) (s out out' : List ℕ) → All Byte s → length out < 2 ^ 64 → length out' < 2 ^ 64 → SameOrder k k'
-    → {end start end' start' : ℕ} → Written end start ≡ answer_for k a s out → Written end' start' ≡ answer_for k' a s out'
+    → {end start end' start' : ℕ} → written_at end start ≡ answer_for k a s out → written_at end' start' ≡ answer_for k' a s out'
     → (cap cap' : ℕ) (es ts es' ts' : List (List ℕ)) → Enough a s es ts → Enough a s es' ts' → (r r' : List ℕ)
     → versionless (tables_tell (output_for k a s out ++ r) (reader_outcome full cap es ts (output_for k a s out ++ r)))
     ≡ versionless (tables_tell (output_for k' a s out' ++ r') (reader_outcome full cap' es' ts' (output_for k' a s out' ++ r')))

@@ -11,11 +11,12 @@ use Rattle.header.specs.Contents.{Contents, Summary, summary_in}
 use Rattle.sheet.specs.Sheet.{sheet_of}
 use Rattle.plan.specs.Header.{piece_of, header_contents, records_in}
 use Rattle.plan.specs.Plan.{plan_for}
-use Rattle.writer.specs.declared.HeaderWritten.{HeaderWritten}
+use Rattle.writer.specs.declared.Written.{Written}
+use Rattle.reading.specs.Replies.{Reply}
 use Rattle.writer.specs.Output.{written_of, header_for, left_by}
 
 -- what the writer answers, for a version and byte order, an alignment, a record sheet and an output
-abbrev pub answer_for : Dialect → ℕ → List ℕ → List ℕ → HeaderWritten
+abbrev pub answer_for : Dialect → ℕ → List ℕ → List ℕ → Reply Written
 answer_for k a s out = written_of (plan_for k a (length out) s)
 
 -- and the output after the call

@@ -1,7 +1,6 @@
 -- The known numbers, as one table: files and sheets byte by byte, and what the definitions say.
-use Rattle.std.specs.Prelude.{ℕ, ◌+◌, ◌-◌, ◌^◌, ◌≡◌, List, [], ◌∷◌, ◌++◌, map, true, false, replicate}
+use Rattle.std.specs.Prelude.{ℕ, ◌+◌, ◌-◌, ◌^◌, ◌≡◌, List, [], ◌∷◌, ◌++◌, map, true, false, replicate, Ok, Err}
 use Rattle.reading.specs.Reading.{Answer, accepted, refused, seen}
-use Rattle.kinds.specs.declared.Measure.TheVariants.{Bytes, Refused as Unmeasured}
 use Rattle.kinds.specs.Shape.{measure_of}
 use Rattle.layout.specs.Layout.{Piece, laid_out_from, layout_of}
 use Rattle.values.specs.declared.Dialect.{Dialect}
@@ -12,9 +11,9 @@ use Rattle.header.specs.declared.Header.{Header}
 use Rattle.header.specs.Format.{FullHeader}
 use Rattle.reading.specs.Ceilings.{full}
 use Rattle.header.specs.Answers.{reader_run}
-use Rattle.ranges.specs.declared.RangeCheck.TheVariants.{Inside, Refused as Outside}
+use Rattle.reading.specs.Replies.{gives, refuses}
 use Rattle.ranges.specs.Ranges.{check_from}
-use Rattle.writer.specs.declared.HeaderWritten.TheVariants.{Written, Refused as NotWritten}
+use Rattle.writer.specs.Output.{written_at}
 use Rattle.promises.specs.Back.{answer_for, output_for}
 
 -- Files.
@@ -246,26 +245,26 @@ pub record Known : Type 0 where
   pub big-2 : reader_run full 0 [] [] (start_big 2) ≡ refused 4 4
   pub two-laid : layout_of 32 (piece 5 0 ∷ piece 3 1 ∷ []) ≡ laid_out_from (0 ∷ 32 ∷ []) (record { total = 8; next = 64 })
   -- a file of 134 bytes holds them, and one of 133 does not hold tensor 1
-  pub file-134 : check_from 96 134 0 rows_ab ≡ Inside
-  pub file-133 : check_from 96 133 0 rows_ab ≡ Outside 20 1
+  pub file-134 : check_from 96 134 0 rows_ab ≡ gives tt
+  pub file-133 : check_from 96 133 0 rows_ab ≡ refuses 20 1
   -- sizes: whole blocks of kinds 30, 39, 9 and 20
-  pub kind-30 : measure_of (256 ∷ 1 ∷ 1 ∷ 1 ∷ []) 30 ≡ Bytes 256 512
-  pub kind-39 : measure_of (32 ∷ 1 ∷ 1 ∷ 1 ∷ []) 39 ≡ Bytes 32 17
-  pub kind-9 : measure_of (32 ∷ 1 ∷ 1 ∷ 1 ∷ []) 9 ≡ Bytes 32 36
-  pub kind-20 : measure_of (32 ∷ 1 ∷ 1 ∷ 1 ∷ []) 20 ≡ Bytes 32 18
+  pub kind-30 : measure_of (256 ∷ 1 ∷ 1 ∷ 1 ∷ []) 30 ≡ Ok (record { product = 256; size = 512 })
+  pub kind-39 : measure_of (32 ∷ 1 ∷ 1 ∷ 1 ∷ []) 39 ≡ Ok (record { product = 32; size = 17 })
+  pub kind-9 : measure_of (32 ∷ 1 ∷ 1 ∷ 1 ∷ []) 9 ≡ Ok (record { product = 32; size = 36 })
+  pub kind-20 : measure_of (32 ∷ 1 ∷ 1 ∷ 1 ∷ []) 20 ≡ Ok (record { product = 32; size = 18 })
   -- kind 2 with 33 numbers and with no dimensions, in blocks of 32; kind 31, which takes no bytes
-  pub kind_2 : measure_of (33 ∷ 1 ∷ 1 ∷ 1 ∷ []) 2 ≡ Unmeasured 17
-  pub kind-2-alone : measure_of (1 ∷ 1 ∷ 1 ∷ 1 ∷ []) 2 ≡ Unmeasured 17
-  pub kind-31 : measure_of (33 ∷ 1 ∷ 1 ∷ 1 ∷ []) 31 ≡ Bytes 33 0
+  pub kind_2 : measure_of (33 ∷ 1 ∷ 1 ∷ 1 ∷ []) 2 ≡ Err 17
+  pub kind-2-alone : measure_of (1 ∷ 1 ∷ 1 ∷ 1 ∷ []) 2 ≡ Err 17
+  pub kind-31 : measure_of (33 ∷ 1 ∷ 1 ∷ 1 ∷ []) 31 ≡ Ok (record { product = 33; size = 0 })
   -- kind 0 with no dimensions, with 2 ^ 62 numbers and with one fewer
-  pub no_dimensions : measure_of (1 ∷ 1 ∷ 1 ∷ 1 ∷ []) 0 ≡ Bytes 1 4
-  pub too_long : measure_of (2 ^ 62 ∷ 1 ∷ 1 ∷ 1 ∷ []) 0 ≡ Unmeasured 14
-  pub just_fits : measure_of ((2 ^ 62 - 1) ∷ 1 ∷ 1 ∷ 1 ∷ []) 0 ≡ Bytes (2 ^ 62 - 1) (2 ^ 64 - 4)
+  pub no_dimensions : measure_of (1 ∷ 1 ∷ 1 ∷ 1 ∷ []) 0 ≡ Ok (record { product = 1; size = 4 })
+  pub too_long : measure_of (2 ^ 62 ∷ 1 ∷ 1 ∷ 1 ∷ []) 0 ≡ Err 14
+  pub just_fits : measure_of ((2 ^ 62 - 1) ∷ 1 ∷ 1 ∷ 1 ∷ []) 0 ≡ Ok (record { product = 2 ^ 62 - 1; size = 2 ^ 64 - 4 })
   -- through the reader: a header of 256 numbers of kind 30. Its file has 576 bytes; cut in half it
   -- does not hold the tensor
   pub bf16_read : reader_run full 0 [] ([] ∷ []) (alone3 30 (short 0 1)) ≡ only (flat 32 30 256 0 512) 57
-  pub bf16_whole : check_from 64 576 0 (tensor_row (flat 32 30 256 0 512) ∷ []) ≡ Inside
-  pub bf16_cut : check_from 64 288 0 (tensor_row (flat 32 30 256 0 512) ∷ []) ≡ Outside 20 0
+  pub bf16_whole : check_from 64 576 0 (tensor_row (flat 32 30 256 0 512) ∷ []) ≡ gives tt
+  pub bf16_cut : check_from 64 288 0 (tensor_row (flat 32 30 256 0 512) ∷ []) ≡ refuses 20 0
   -- parts of a block are refused at the tensor's start, also where a product would not fit; no
   -- numbers are whole blocks, and kind 31 has no such test
   pub kind-2-read : reader_run full 0 [] ([] ∷ []) (alone3 2 (short 33 0)) ≡ refused 17 24
@@ -308,30 +307,30 @@ pub record Known : Type 0 where
   pub long_u64 : reader_run full 0 ([] ∷ []) [] (long_in3 10 (replicate 8 255) 23) ≡ refused 1 65
   pub long-inside : reader_run full 0 ([] ∷ []) [] (array_in1 (in_three (10 ∷ 0 ∷ 0 ∷ 0 ∷ replicate 4 255) ++ replicate 9 0)) ≡ refused 1 65
   -- a sheet of no bytes is refused, whatever the output
-  pub no_sheet : (out : List ℕ) → answer_for (little 3) 32 [] out ≡ NotWritten 31 0
+  pub no_sheet : (out : List ℕ) → answer_for (little 3) 32 [] out ≡ refuses 31 0
   -- the sheet of the byte 1: 24 bytes, then 8 zeros
-  pub only-version : answer_for (little 3) 32 (1 ∷ []) (replicate 32 255) ≡ Written 24 32
+  pub only-version : answer_for (little 3) 32 (1 ∷ []) (replicate 32 255) ≡ written_at 24 32
   pub then_zeros : output_for (little 3) 32 (1 ∷ []) (replicate 33 255) ≡ empty3 ++ replicate 8 0 ++ (255 ∷ [])
   -- the same in both big-endian forms; the one behind the same magic is there in version 3 alone,
   -- whatever the alignment, the sheet and the output
   pub then_zeros_big : output_for (big 3) 32 (1 ∷ []) (replicate 33 255) ≡ empty_big ++ replicate 8 0 ++ (255 ∷ [])
-  pub big-30 : (a : ℕ) (s out : List ℕ) → (answer_for (big 1) a s out ≡ NotWritten 30 0) × (answer_for (big 2) a s out ≡ NotWritten 30 0)
+  pub big-30 : (a : ℕ) (s out : List ℕ) → (answer_for (big 1) a s out ≡ refuses 30 0) × (answer_for (big 2) a s out ≡ refuses 30 0)
   pub then_zeros_turned : output_for (big_turned 3) 32 (1 ∷ []) (replicate 33 255) ≡ empty_turned 3 16 ++ replicate 8 0 ++ (255 ∷ [])
   pub then_zeros_turned-2 : output_for (big_turned 2) 32 (1 ∷ []) (replicate 33 255) ≡ empty_turned 2 16 ++ replicate 8 0 ++ (255 ∷ [])
   pub then_zeros_turned-1 : output_for (big_turned 1) 32 (1 ∷ []) (replicate 33 255) ≡ empty_turned 1 8 ++ replicate 16 0 ++ (255 ∷ [])
   -- with alignment 64: 57 bytes, then 7 zeros
-  pub alignment-64 : answer_for (little 3) 64 (1 ∷ []) (replicate 64 255) ≡ Written 57 64
+  pub alignment-64 : answer_for (little 3) 64 (1 ∷ []) (replicate 64 255) ≡ written_at 57 64
   pub output-64 : output_for (little 3) 64 (1 ∷ []) (replicate 65 255) ≡ aligned3 ++ replicate 7 0 ++ (255 ∷ [])
   -- the sheet of a and b becomes the files above
-  pub written-3 : answer_for (little 3) 32 sheet_ab (replicate 96 255) ≡ Written 90 96
-  pub written-1 : answer_for (little 1) 32 sheet_ab (replicate 96 255) ≡ Written 74 96
+  pub written-3 : answer_for (little 3) 32 sheet_ab (replicate 96 255) ≡ written_at 90 96
+  pub written-1 : answer_for (little 1) 32 sheet_ab (replicate 96 255) ≡ written_at 74 96
   pub output-3 : output_for (little 3) 32 sheet_ab (replicate 96 255) ≡ tensors3 ++ replicate 6 0
   pub output-1 : output_for (little 1) 32 sheet_ab (replicate 96 255) ≡ tensors1 ++ replicate 22 0
   pub output-big : output_for (big 3) 32 sheet_ab (replicate 96 255) ≡ tensors_big ++ replicate 6 0
   -- the sheet of the lists becomes the file above; an item type of arrays stands in the third array
   -- without items, and in the fourth it is bad
   pub output-lists : output_for (little 1) 32 sheet_lists (replicate 64 255) ≡ array_in1 lists ++ replicate 12 0
-  pub written-lists : answer_for (little 3) 32 sheet_lists (replicate 96 255) ≡ Written 76 96
+  pub written-lists : answer_for (little 3) 32 sheet_lists (replicate 96 255) ≡ written_at 76 96
   pub output-third : output_for (little 1) 32 sheet_third (replicate 64 255) ≡ array_in1 (items1 9 1 ++ items1 9 1 ++ items1 9 0) ++ replicate 15 0
   pub output-fourth : output_for (little 1) 32 (sheet_fourth 0) (replicate 64 255) ≡ array_in1 (in_three (items1 0 0)) ++ replicate 7 0
-  pub bad-fourth : (out : List ℕ) → answer_for (little 3) 32 (sheet_fourth 9) out ≡ NotWritten 31 1
+  pub bad-fourth : (out : List ℕ) → answer_for (little 3) 32 (sheet_fourth 9) out ≡ refuses 31 1

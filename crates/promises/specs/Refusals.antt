@@ -4,7 +4,7 @@ use Rattle.std.specs.Prelude.{ℕ, suc, ◌-◌, ◌^◌, ◌≤◌, ◌<◌, �
 use Rattle.reading.specs.Refusals.{is_one_of}
 use Rattle.values.specs.Format.{alignment_key}
 use Rattle.layout.specs.Layout.{refused_at, layout_of}
-use Rattle.writer.specs.declared.HeaderWritten.TheVariants.{Refused as NotWritten}
+use Rattle.reading.specs.Replies.{refuses}
 use Rattle.promises.specs.Back.{answer_for}
 use Rattle.promises.specs.Known.{little, piece}
 
@@ -55,18 +55,18 @@ half_entry = flat_entry 97 24 (128 ∷ 0 ∷ 0 ∷ 0 ∷ 0 ∷ 0 ∷ 0 ∷ 0 ∷
 -- Each number of the writer is given, but for 37, which no sheet below 4 GiB reaches. The output
 -- has no bytes. That the range check gives 20 is among the known numbers.
 pub record Given : Type 0 where
-  pub version : answer_for (little 4) 32 (1 ∷ []) [] ≡ NotWritten 30 0
-  pub contents : answer_for (little 3) 32 (1 ∷ 0 ∷ []) [] ≡ NotWritten 31 1
-  pub alignment : answer_for (little 3) 12 (1 ∷ []) [] ≡ NotWritten 32 0
-  pub no_u32 : answer_for (little 3) (2 ^ 32) (1 ∷ []) [] ≡ NotWritten 33 0
-  pub other : answer_for (little 3) 32 sheet64 [] ≡ NotWritten 34 0
-  pub kind : answer_for (little 3) 32 (1 ∷ flat_entry 97 31 (0 ∷ 0 ∷ 0 ∷ 0 ∷ 0 ∷ 0 ∷ 0 ∷ 1 ∷ [])) [] ≡ NotWritten 35 0
-  pub partial : answer_for (little 3) 32 (1 ∷ (flat_entry 97 0 (0 ∷ 0 ∷ 0 ∷ 0 ∷ 0 ∷ 0 ∷ 0 ∷ 5 ∷ []) ++ flat_entry 98 2 (0 ∷ 0 ∷ 0 ∷ 0 ∷ 0 ∷ 0 ∷ 0 ∷ 33 ∷ []))) [] ≡ NotWritten 17 1
-  pub product : answer_for (little 3) 32 (1 ∷ square_entry) [] ≡ NotWritten 13 0
-  pub size : answer_for (little 3) 32 (1 ∷ flat_entry 97 0 (64 ∷ 0 ∷ 0 ∷ 0 ∷ 0 ∷ 0 ∷ 0 ∷ 0 ∷ [])) [] ≡ NotWritten 14 0
-  pub total : answer_for (little 3) 32 (1 ∷ (half_entry ++ half_entry)) [] ≡ NotWritten 15 1
-  pub end : answer_for (little 3) 32 (1 ∷ flat_entry 97 0 (63 ∷ 255 ∷ 255 ∷ 255 ∷ 255 ∷ 255 ∷ 255 ∷ 255 ∷ [])) [] ≡ NotWritten 36 0
-  pub room : answer_for (little 3) 32 (1 ∷ []) [] ≡ NotWritten 38 0
+  pub version : answer_for (little 4) 32 (1 ∷ []) [] ≡ refuses 30 0
+  pub contents : answer_for (little 3) 32 (1 ∷ 0 ∷ []) [] ≡ refuses 31 1
+  pub alignment : answer_for (little 3) 12 (1 ∷ []) [] ≡ refuses 32 0
+  pub no_u32 : answer_for (little 3) (2 ^ 32) (1 ∷ []) [] ≡ refuses 33 0
+  pub other : answer_for (little 3) 32 sheet64 [] ≡ refuses 34 0
+  pub kind : answer_for (little 3) 32 (1 ∷ flat_entry 97 31 (0 ∷ 0 ∷ 0 ∷ 0 ∷ 0 ∷ 0 ∷ 0 ∷ 1 ∷ [])) [] ≡ refuses 35 0
+  pub partial : answer_for (little 3) 32 (1 ∷ (flat_entry 97 0 (0 ∷ 0 ∷ 0 ∷ 0 ∷ 0 ∷ 0 ∷ 0 ∷ 5 ∷ []) ++ flat_entry 98 2 (0 ∷ 0 ∷ 0 ∷ 0 ∷ 0 ∷ 0 ∷ 0 ∷ 33 ∷ []))) [] ≡ refuses 17 1
+  pub product : answer_for (little 3) 32 (1 ∷ square_entry) [] ≡ refuses 13 0
+  pub size : answer_for (little 3) 32 (1 ∷ flat_entry 97 0 (64 ∷ 0 ∷ 0 ∷ 0 ∷ 0 ∷ 0 ∷ 0 ∷ 0 ∷ [])) [] ≡ refuses 14 0
+  pub total : answer_for (little 3) 32 (1 ∷ (half_entry ++ half_entry)) [] ≡ refuses 15 1
+  pub end : answer_for (little 3) 32 (1 ∷ flat_entry 97 0 (63 ∷ 255 ∷ 255 ∷ 255 ∷ 255 ∷ 255 ∷ 255 ∷ 255 ∷ [])) [] ≡ refuses 36 0
+  pub room : answer_for (little 3) 32 (1 ∷ []) [] ≡ refuses 38 0
   -- the six of a tensor, by the layout itself
   pub laid-kind : layout_of 32 (piece 5 0 ∷ piece 3 31 ∷ []) ≡ refused_at 35 1
   pub laid-partial : layout_of 32 (piece 5 0 ∷ piece 33 2 ∷ []) ≡ refused_at 17 1

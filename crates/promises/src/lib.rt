@@ -3,17 +3,17 @@
 
 ghost use Rattle.promises.specs.RoundTrip.{WroteAndRead};
 
-use header::HeaderRead;
-use reading::Limits;
+use header::Header;
+use reading::{Limits, Refusal};
 use rows::{EntryRow, TensorRow};
 use values::Dialect;
-use writer::HeaderWritten;
+use writer::Written;
 
 // What was written, and what was read of it.
 #[derive(Clone, Copy)]
 pub struct WrittenAndRead {
-    pub written: HeaderWritten,
-    pub read: HeaderRead,
+    pub written: Result<Written, Refusal>,
+    pub read: Result<Header, Refusal>,
 }
 
 // Writes the header of a sheet, and reads the output: whatever the sheet, where it was written and
@@ -30,10 +30,6 @@ pub fn write_then_read(
     ensures { WroteAndRead dialect alignment cap sheet.now out.old entries.old tensors.old result out.new entries.new tensors.new }
 {
     let written = writer::write_header(sheet, dialect, alignment, out);
-    let limits = Limits {
-        versions: 3,
-        kinds: 39,
-    };
-    let read = header::read(out, limits, cap, entries, tensors);
+    let read = header::read(out, Limits::FULL, cap, entries, tensors);
     WrittenAndRead { written, read }
 }

@@ -8,8 +8,8 @@ use lib.ListN.{length, drop, get_or, drop_of_length-le}
 use lib.Seq.{drop-cons}
 use borrow.Author.Tests.{le-leb, lt-leb}
 use Rattle.reading.proofs.Cases.{split}
+use Rattle.reading.specs.Replies.{gives, refuses}
 use Rattle.ranges.specs.Ranges.{end_of, check_from}
-use Rattle.ranges.specs.declared.RangeCheck.TheVariants.{Inside, Refused}
 
 -- two tests answer alike where each outcome of the one gives that of the other
 pub alike : (a b c d : ℕ) → (a ≤ b → c ≤ d) → (b < a → d < c) → leb a b ≡ leb c d
@@ -18,7 +18,7 @@ alike a b c d then-so otherwise =
 
 module _ (start file : ℕ) (rows : List (List ℕ)) (i : ℕ) where
   -- past the last row nothing is refused
-  pub at-end : length rows ≤ i → check_from start file i (drop i rows) ≡ Inside
+  pub at-end : length rows ≤ i → check_from start file i (drop i rows) ≡ gives tt
   at-end h = rw (drop_of_length-le rows h)
 
   -- at a row that ends inside, what is left is the check of the rows after it
@@ -26,5 +26,5 @@ module _ (start file : ℕ) (rows : List (List ℕ)) (i : ℕ) where
   goes_on h e = rw (drop-cons rows i [] h, e)
 
   -- at a row that does not, its number is the answer
-  pub stops : i < length rows → leb (end_of start (get_or rows i [])) file ≡ false → check_from start file i (drop i rows) ≡ Refused 20 i
+  pub stops : i < length rows → leb (end_of start (get_or rows i [])) file ≡ false → check_from start file i (drop i rows) ≡ refuses 20 i
   stops h e = rw (drop-cons rows i [] h, e)

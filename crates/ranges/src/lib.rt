@@ -3,44 +3,34 @@
 
 ghost use Rattle.std.specs.Prelude.{◌≡◌, ◌+◌, leb};
 ghost use Rattle.ranges.specs.Ranges.{check_from};
+ghost use Rattle.reading.specs.Replies.{as_reply};
 
+use reading::{Reason, Refusal};
 use rows::{OFFSET, SIZE, TensorRow};
 
-// Every tensor ends inside the file, or the refusal, 20, with the number of the first that does
-// not.
-#[derive(Clone, Copy)]
-pub enum RangeCheck {
-    Inside,
-    Refused { why: u64, tensor: usize },
-}
-
-// Whether data at an offset from start, of so many bytes, ends inside a file. Only differences are
-// made, which cannot wrap.
+// Whether data at an offset from start, of so many bytes, ends inside a file. A sum that would wrap
+// is past every file.
 pub fn ends_inside(start: u64, offset: u64, size: u64, file: u64) -> bool
     ensures { result ≡ leb (start + offset + size) file }
 {
-    if file < start {
-        return false;
-    }
-    let area = file - start;
-    if area < offset {
-        return false;
-    }
-    size <= area - offset
+    start
+        .checked_add(offset)
+        .and_then(|at| at.checked_add(size))
+        .is_some_and(|end| end <= file)
 }
 
 // Whether the data of every tensor row ends inside a file of so many bytes, whose data starts at
 // start. The rows may be anyone's.
-pub fn check_ranges(rows: &[TensorRow], start: u64, file: u64) -> RangeCheck
-    ensures { result ≡ check_from start file 0 rows.now }
+pub fn check_ranges(rows: &[TensorRow], start: u64, file: u64) -> Result<(), Refusal>
+    ensures { as_reply result ≡ check_from start file 0 rows.now }
 {
-    let mut i: usize = 0;
-    while i < rows.len() {
-        let row = rows[i];
+    for (i, row) in rows.iter().enumerate() {
         if !ends_inside(start, row[OFFSET], row[SIZE], file) {
-            return RangeCheck::Refused { why: 20, tensor: i };
+            return Err(Refusal {
+                why: Reason::PastTheFile,
+                place: i,
+            });
         }
-        i += 1;
     }
-    RangeCheck::Inside
+    Ok(())
 }

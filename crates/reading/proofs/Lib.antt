@@ -10,3 +10,4 @@ pub mod Views
 pub mod Onward
 pub mod RefusalLaws
 pub mod EachChecked
+pub mod Sames

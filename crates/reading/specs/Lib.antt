@@ -5,3 +5,4 @@ pub mod Pieces
 pub mod Ceilings
 pub mod Back
 pub mod Refusals
+pub mod Replies

@@ -4,81 +4,73 @@
 //
 // data/README.md says what the file of answers holds and how it is made. A function that compares
 // takes the place that it has reached in a stored answer, and answers the place after what agreed,
-// or LOST, where nothing stands: so what comes after a difference differs too.
+// or none.
 #![tactic(auto)]
 
-ghost use Rattle.std.specs.Prelude.{◌≤◌};
-
-use fields::{Number, Width};
-use header::{Header, HeaderRead};
-use reading::Limits;
+use fields::Width;
+use header::Header;
+use reading::{Limits, Refusal};
 use rows::{
-    ENTRY_WORDS, EntryRow, FIRST_ITEM, ITEM_TYPE, KEPT, KEY_LENGTH, KEY_PLACE, NAME_LENGTH,
+    ENTRY_WORDS, EntryRow, FIRST_ITEM, ITEM_TYPE, KEPT, KEY_LENGTH, KEY_PLACE, KIND, NAME_LENGTH,
     NAME_PLACE, SCALAR, STRING_LENGTH, STRING_PLACE, TENSOR_WORDS, TensorRow, VALUE_TYPE,
 };
-use scalars::ScalarWidth;
-use values::{Dialect, Entry, Span, TextRead, Value};
-
-// A place that no answer has.
-const LOST: usize = 18446744073709551615;
-
-// The forms of a stored value.
-const NOT_FINITE: u64 = 0;
-
-const TRUTH: u64 = 1;
-
-const INTEGER: u64 = 2;
-
-const BELOW_ZERO: u64 = 3;
-
-const FLOAT: u64 = 4;
-
-const TEXT: u64 = 5;
-
-const LIST: u64 = 6;
+use values::{Dialect, Span};
 
 // How the sample's own texts are written: a little-endian length of four bytes, and the bytes.
-fn plain() -> Dialect {
-    Dialect {
-        version: 1,
-        big: false,
-        turned: false,
-    }
+const PLAIN: Dialect = Dialect {
+    version: 1,
+    big: false,
+    turned: false,
+};
+
+// The forms of a stored value.
+#[derive(Clone, Copy)]
+enum Form {
+    NotFinite = 0,
+    Truth = 1,
+    Integer = 2,
+    BelowZero = 3,
+    Float = 4,
+    Text = 5,
+    List = 6,
+}
+
+// A word, and the place after it.
+fn word_at(sample: &[u8], at: usize) -> Option<(u64, usize)> {
+    fields::number_at(sample, at, Width::Eight, false).ok()
+}
+
+// A text, and the place after it.
+fn text_at(sample: &[u8], at: usize) -> Option<(&[u8], usize)> {
+    let (span, next) = values::read_string(sample, at, PLAIN).ok()?;
+    Some((values::inside(sample, span), next))
 }
 
 // The place after a word, whatever it is.
-fn skip(answer: &[u8], at: usize) -> usize {
-    match fields::number_at(answer, at, Width::Eight, false) {
-        Number::Refused { why: _, place: _ } => LOST,
-        Number::Value { value: _, next } => next,
-    }
+fn skip(answer: &[u8], at: usize) -> Option<usize> {
+    let (_, next) = word_at(answer, at)?;
+    Some(next)
 }
 
 // A word.
-fn same_word(answer: &[u8], at: usize, word: u64) -> usize {
-    match fields::number_at(answer, at, Width::Eight, false) {
-        Number::Refused { why: _, place: _ } => LOST,
-        Number::Value { value, next } => { if value == word { next } else { LOST } }
-    }
+fn same_word(answer: &[u8], at: usize, word: u64) -> Option<usize> {
+    let (value, next) = word_at(answer, at)?;
+    (value == word).then_some(next)
 }
 
-// Whether two texts are the same.
-fn is_same(a: &[u8], b: &[u8]) -> bool {
-    a.len() == b.len() && values::begins_at(a, 0, b)
+// Words, one after the other.
+fn same_words(answer: &[u8], at: usize, words: &[u64]) -> Option<usize> {
+    let mut p = at;
+    for word in words {
+        p = same_word(answer, p, *word)?;
+    }
+    Some(p)
 }
 
 // A text.
-fn same_text(answer: &[u8], at: usize, text: &[u8]) -> usize {
-    match values::read_string(answer, at, plain()) {
-        TextRead::Refused { why: _, place: _ } => LOST,
-        TextRead::Found { span, next } => {
-            if is_same(values::inside(answer, span), text) {
-                next
-            } else {
-                LOST
-            }
-        }
-    }
+fn same_text(answer: &[u8], at: usize, text: &[u8]) -> Option<usize> {
+    let (stored, next) = text_at(answer, at)?;
+    (stored == text).then_some(next)
 }
 
 // The text that two words of a row tell.
@@ -93,104 +85,39 @@ fn text_in(input: &[u8], place: u64, len: u64) -> &[u8] {
 }
 
 // The form in which the original gives a scalar of a type.
-fn form_of(t: u64, word: u64) -> u64 {
+fn form_of(t: u64, word: u64) -> Form {
     match t {
-        1 | 3 | 5 | 11 => {
-            if word < 9223372036854775808 {
-                INTEGER
-            } else {
-                BELOW_ZERO
-            }
-        }
-        6 => {
-            if word / 8388608 % 256 == 255 {
-                NOT_FINITE
-            } else {
-                FLOAT
-            }
-        }
-        7 => TRUTH,
-        12 => {
-            if word / 4503599627370496 % 2048 == 2047 {
-                NOT_FINITE
-            } else {
-                FLOAT
-            }
-        }
-        _ => INTEGER,
+        1 | 3 | 5 | 11 if word >= 1 << 63 => Form::BelowZero,
+        6 if word >> 23 & 0xff == 0xff => Form::NotFinite,
+        12 if word >> 52 & 0x7ff == 0x7ff => Form::NotFinite,
+        6 | 12 => Form::Float,
+        7 => Form::Truth,
+        _ => Form::Integer,
     }
 }
 
 // A float, which stands in eight bytes and then in four.
-fn same_float(answer: &[u8], at: usize, t: u64, word: u64) -> usize {
+fn same_float(answer: &[u8], at: usize, t: u64, word: u64) -> Option<usize> {
     if t == 6 {
-        same_word(answer, skip(answer, at), word)
+        same_word(answer, skip(answer, at)?, word)
     } else {
-        skip(answer, same_word(answer, at, word))
+        skip(answer, same_word(answer, at, word)?)
     }
 }
 
 // A scalar of a type. Of a float that is not finite the original says nothing else.
-fn same_scalar(answer: &[u8], at: usize, t: u64, word: u64) -> usize {
+fn same_scalar(answer: &[u8], at: usize, t: u64, word: u64) -> Option<usize> {
     let form = form_of(t, word);
-    let p = same_word(answer, at, form);
-    if form == NOT_FINITE {
-        return p;
-    }
-    if form == FLOAT {
-        return same_float(answer, p, t, word);
-    }
-    same_word(answer, p, word)
-}
-
-// The word of a scalar of the type t from its bits.
-fn word_of(t: u64, bits: u64) -> u64 {
-    let entry = Entry {
-        key: Span { place: 0, len: 0 },
-        is_alignment: false,
-        value: Value::Single(scalars::scalar_of(t, bits)),
-    };
-    let row = values::entry_row(entry);
-    row[SCALAR]
-}
-
-// The place after the item of an array that stands at a place of the input.
-fn after_item(input: &[u8], from: usize, t: u64, dialect: Dialect) -> usize {
-    if t == 8 {
-        return match values::read_string(input, from, dialect) {
-            TextRead::Refused { why: _, place: _ } => LOST,
-            TextRead::Found { span: _, next } => next,
-        };
-    }
-    match number_in(input, from, t, dialect) {
-        Number::Refused { why: _, place: _ } => LOST,
-        Number::Value { value: _, next } => next,
+    let p = same_word(answer, at, form as u64)?;
+    match form {
+        Form::NotFinite => Some(p),
+        Form::Float => same_float(answer, p, t, word),
+        _ => same_word(answer, p, word),
     }
 }
 
-// The bits of a scalar of the type t at a place of the input.
-fn number_in(input: &[u8], from: usize, t: u64, dialect: Dialect) -> Number {
-    match scalars::scalar_width(t) {
-        ScalarWidth::None => Number::Refused {
-            why: 1,
-            place: from,
-        },
-        ScalarWidth::Of { width } => fields::number_at(input, from, width, dialect.big),
-    }
-}
-
-// An item that is a text.
-fn same_text_item(answer: &[u8], at: usize, input: &[u8], from: usize, dialect: Dialect) -> usize {
-    match values::read_string(input, from, dialect) {
-        TextRead::Refused { why: _, place: _ } => LOST,
-        TextRead::Found { span, next: _ } => {
-            let p = same_word(answer, at, TEXT);
-            same_text(answer, p, values::inside(input, span))
-        }
-    }
-}
-
-// An item of the type t at a place of the input.
+// An item of the type t at a place of the input: the places after it, in the answer and in the
+// input.
 fn same_item(
     answer: &[u8],
     at: usize,
@@ -198,14 +125,16 @@ fn same_item(
     from: usize,
     t: u64,
     dialect: Dialect,
-) -> usize {
+) -> Option<(usize, usize)> {
     if t == 8 {
-        return same_text_item(answer, at, input, from, dialect);
+        let (span, next) = values::read_string(input, from, dialect).ok()?;
+        let p = same_word(answer, at, Form::Text as u64)?;
+        return Some((same_text(answer, p, values::inside(input, span))?, next));
     }
-    match number_in(input, from, t, dialect) {
-        Number::Refused { why: _, place: _ } => LOST,
-        Number::Value { value, next: _ } => same_scalar(answer, at, t, word_of(t, value)),
-    }
+    let width = scalars::scalar_width(t)?;
+    let (bits, next) = fields::number_at(input, from, width, dialect.big).ok()?;
+    let [_, word] = scalars::scalar_words(scalars::scalar_of(t, bits));
+    Some((same_scalar(answer, at, t, word)?, next))
 }
 
 // Items of the type t, as many as are kept, from a place of the input on.
@@ -217,80 +146,61 @@ fn same_items(
     kept: u64,
     t: u64,
     dialect: Dialect,
-) -> usize {
+) -> Option<usize> {
     let mut p = at;
     let mut from = first;
-    let mut i: u64 = 0;
-    while i < kept {
-        p = same_item(answer, p, input, from, t, dialect);
-        from = after_item(input, from, t, dialect);
-        i += 1;
+    for _ in 0..kept {
+        (p, from) = same_item(answer, p, input, from, t, dialect)?;
     }
-    p
+    Some(p)
 }
 
 // The value of an entry's row.
-fn same_value(answer: &[u8], at: usize, input: &[u8], row: EntryRow, dialect: Dialect) -> usize {
+fn same_value(
+    answer: &[u8],
+    at: usize,
+    input: &[u8],
+    row: EntryRow,
+    dialect: Dialect,
+) -> Option<usize> {
     match row[VALUE_TYPE] {
         8 => {
-            let p = same_word(answer, at, TEXT);
-            same_text(
-                answer,
-                p,
-                text_in(input, row[STRING_PLACE], row[STRING_LENGTH]),
-            )
+            let p = same_word(answer, at, Form::Text as u64)?;
+            let text = text_in(input, row[STRING_PLACE], row[STRING_LENGTH]);
+            same_text(answer, p, text)
         }
         9 => {
-            let p = same_word(answer, at, LIST);
-            let q = same_word(answer, p, row[KEPT]);
-            same_items(
-                answer,
-                q,
-                input,
-                row[FIRST_ITEM] as usize,
-                row[KEPT],
-                row[ITEM_TYPE],
-                dialect,
-            )
+            let kept = row[KEPT];
+            let p = same_words(answer, at, &[Form::List as u64, kept])?;
+            let first = row[FIRST_ITEM] as usize;
+            same_items(answer, p, input, first, kept, row[ITEM_TYPE], dialect)
         }
         t => same_scalar(answer, at, t, row[SCALAR]),
     }
 }
 
-// The number of the last row of a key, or the count of rows where there is none.
-fn last_of(input: &[u8], rows: &[EntryRow], key: &[u8]) -> usize {
-    let mut found = rows.len();
-    let mut i: usize = 0;
-    while i < rows.len() {
-        let row = rows[i];
-        if is_same(text_in(input, row[KEY_PLACE], row[KEY_LENGTH]), key) {
-            found = i;
-        }
-        i += 1;
-    }
-    found
+// The key of an entry's row.
+fn key_of(input: &[u8], row: EntryRow) -> &[u8] {
+    text_in(input, row[KEY_PLACE], row[KEY_LENGTH])
 }
 
-// 1 for the last row of a key, and 0 for any other.
-fn survives(input: &[u8], rows: &[EntryRow], row: EntryRow, i: usize) -> u64
-    ensures { result ≤ 1 }
-{
-    if last_of(input, rows, text_in(input, row[KEY_PLACE], row[KEY_LENGTH])) == i {
-        1
-    } else {
-        0
-    }
+// The number of the last row of a key.
+fn last_of(input: &[u8], rows: &[EntryRow], key: &[u8]) -> Option<usize> {
+    rows.iter().rposition(|row| key_of(input, *row) == key)
+}
+
+// Whether the row i is the last of its key.
+fn survives(input: &[u8], rows: &[EntryRow], row: EntryRow, i: usize) -> bool {
+    last_of(input, rows, key_of(input, row)) == Some(i)
 }
 
 // How many keys the rows have.
 fn distinct(input: &[u8], rows: &[EntryRow]) -> u64 {
-    let mut keys: u64 = 0;
-    let mut i: usize = 0;
-    while i < rows.len() {
-        keys += survives(input, rows, rows[i], i);
-        i += 1;
-    }
-    keys
+    let last = rows
+        .iter()
+        .enumerate()
+        .filter(|(i, row)| survives(input, rows, **row, *i));
+    last.count() as u64
 }
 
 // A key of the original, and the value of its last row.
@@ -300,18 +210,10 @@ fn same_entry(
     input: &[u8],
     rows: &[EntryRow],
     dialect: Dialect,
-) -> usize {
-    match values::read_string(answer, at, plain()) {
-        TextRead::Refused { why: _, place: _ } => LOST,
-        TextRead::Found { span, next } => {
-            let i = last_of(input, rows, values::inside(answer, span));
-            if i < rows.len() {
-                same_value(answer, next, input, rows[i], dialect)
-            } else {
-                LOST
-            }
-        }
-    }
+) -> Option<usize> {
+    let (key, next) = text_at(answer, at)?;
+    let row = rows.get(last_of(input, rows, key)?)?;
+    same_value(answer, next, input, *row, dialect)
 }
 
 // The original's keys: as many as the rows have, each with the value of its last row.
@@ -321,49 +223,39 @@ fn same_entries(
     input: &[u8],
     rows: &[EntryRow],
     dialect: Dialect,
-) -> usize {
+) -> Option<usize> {
     let keys = distinct(input, rows);
-    let mut p = same_word(answer, at, keys);
-    let mut i: u64 = 0;
-    while i < keys {
-        p = same_entry(answer, p, input, rows, dialect);
-        i += 1;
+    let mut p = same_word(answer, at, keys)?;
+    for _ in 0..keys {
+        p = same_entry(answer, p, input, rows, dialect)?;
     }
-    p
+    Some(p)
 }
 
-// The words of a tensor's row after its name.
-fn same_words(answer: &[u8], at: usize, row: TensorRow) -> usize {
+// The tensors' rows, in order: a name each, and the words after it.
+fn same_tensors(answer: &[u8], at: usize, input: &[u8], rows: &[TensorRow]) -> Option<usize> {
     let mut p = at;
-    let mut i: usize = 2;
-    while i < 10 {
-        p = same_word(answer, p, row[i]);
-        i += 1;
+    for row in rows {
+        p = same_text(answer, p, text_in(input, row[NAME_PLACE], row[NAME_LENGTH]))?;
+        p = same_words(answer, p, &row[KIND..])?;
     }
-    p
-}
-
-// The tensors' rows, in order.
-fn same_tensors(answer: &[u8], at: usize, input: &[u8], rows: &[TensorRow]) -> usize {
-    let mut p = at;
-    let mut i: usize = 0;
-    while i < rows.len() {
-        let row = rows[i];
-        let q = same_text(answer, p, text_in(input, row[NAME_PLACE], row[NAME_LENGTH]));
-        p = same_words(answer, q, row);
-        i += 1;
-    }
-    p
+    Some(p)
 }
 
 // What the header says of itself.
-fn same_format(answer: &[u8], at: usize, header: Header) -> usize {
-    let p = same_word(answer, at, header.version);
-    let q = same_word(answer, p, if header.big { 1 } else { 0 });
-    same_word(answer, same_word(answer, q, header.entries), header.tensors)
+fn same_format(answer: &[u8], at: usize, header: Header) -> Option<usize> {
+    let words = [
+        header.version,
+        header.big as u64,
+        header.entries,
+        header.tensors,
+        header.alignment,
+        header.start,
+    ];
+    same_words(answer, at, &words)
 }
 
-// A header with its rows, of which the tables have more.
+// A header with its rows.
 fn same_header(
     answer: &[u8],
     at: usize,
@@ -371,71 +263,45 @@ fn same_header(
     header: Header,
     entries: &[EntryRow],
     tensors: &[TensorRow],
-) -> usize {
-    let dialect = Dialect {
-        version: header.version,
-        big: header.big,
-        turned: header.turned,
-    };
-    let p = same_format(answer, at, header);
-    let q = same_word(answer, same_word(answer, p, header.alignment), header.start);
-    let r = same_entries(answer, q, input, entries, dialect);
-    same_tensors(answer, r, input, tensors)
+) -> Option<usize> {
+    let dialect = header.dialect();
+    let p = same_format(answer, at, header)?;
+    let p = same_entries(answer, p, input, entries, dialect)?;
+    same_tensors(answer, p, input, tensors)
 }
 
-// A reader's answer and the rows that it filled.
+// A reader's answer and the rows that it filled, of which the tables have more.
 fn same_answer(
     answer: &[u8],
     input: &[u8],
-    read: HeaderRead,
+    read: Result<Header, Refusal>,
     entries: &[EntryRow],
     tensors: &[TensorRow],
-) -> usize {
+) -> Option<usize> {
     match read {
-        HeaderRead::Refused { why, place: _ } => same_word(answer, 0, why),
-        HeaderRead::Found { header } => {
-            let m = header.entries as usize;
-            let n = header.tensors as usize;
-            if entries.len() < m {
-                return LOST;
-            }
-            if tensors.len() < n {
-                return LOST;
-            }
-            let p = same_word(answer, 0, 0);
-            same_header(answer, p, input, header, &entries[0..m], &tensors[0..n])
+        Err(refusal) => same_word(answer, 0, refusal.why.number()),
+        Ok(header) => {
+            let entries = entries.get(..header.entries as usize)?;
+            let tensors = tensors.get(..header.tensors as usize)?;
+            let p = same_word(answer, 0, 0)?;
+            same_header(answer, p, input, header, entries, tensors)
         }
     }
 }
 
 // Whether the reader says of an input all that the original said of it.
 fn agrees(input: &[u8], answer: &[u8]) -> bool {
-    let entry = [0u64; ENTRY_WORDS];
-    let mut entries = [entry; 64];
-    let tensor = [0u64; TENSOR_WORDS];
-    let mut tensors = [tensor; 64];
-    let limits = Limits {
-        versions: 3,
-        kinds: 39,
-    };
-    let read = header::read(input, limits, 3, &mut entries, &mut tensors);
-    same_answer(answer, input, read, &entries, &tensors) == answer.len()
+    let mut entries = [[0u64; ENTRY_WORDS]; 64];
+    let mut tensors = [[0u64; TENSOR_WORDS]; 64];
+    let read = header::read(input, Limits::FULL, 3, &mut entries, &mut tensors);
+    same_answer(answer, input, read, &entries, &tensors) == Some(answer.len())
 }
 
-// The place after a text of the sample.
-fn after_text(sample: &[u8], at: usize) -> usize {
-    match values::read_string(sample, at, plain()) {
-        TextRead::Refused { why: _, place: _ } => LOST,
-        TextRead::Found { span: _, next } => next,
-    }
-}
-
-// A text of the sample; an empty one where it is not all there.
-fn text_at(sample: &[u8], at: usize) -> &[u8] {
-    match values::read_string(sample, at, plain()) {
-        TextRead::Refused { why: _, place: _ } => &sample[0..0],
-        TextRead::Found { span, next: _ } => values::inside(sample, span),
-    }
+// An input of the sample, the answer to it, and the place after both.
+fn case_at(sample: &[u8], at: usize) -> Option<(&[u8], &[u8], usize)> {
+    let (input, p) = text_at(sample, at)?;
+    let (answer, next) = text_at(sample, p)?;
+    Some((input, answer, next))
 }
 
 // Prints the number of an answer that differs. What stands after the last answer counts as one
@@ -444,54 +310,35 @@ fn print_number(rt: &impl Print, i: u64) {
     let _ = println!(rt; "answer {i} differs");
 }
 
-// 1 where the answer i differs, and 0 where it agrees. The numbers of the first five that differ
-// are printed.
-fn counted(rt: &impl Print, is_same: bool, i: u64, differ: u64) -> u64
-    ensures { result ≤ 1 }
-{
-    if is_same {
-        return 0;
-    }
-    if differ < 5 {
-        print_number(rt, i);
-    }
-    1
-}
-
-// How many of the answers differ, from a place of the sample on.
+// How many of the answers differ, from a place of the sample on: one that is not all there does.
+// The numbers of the first five that differ are printed.
 fn replay(rt: &impl Print, sample: &[u8], at: usize, answers: u64) -> u64 {
-    let mut p = at;
-    let mut differ: u64 = 0;
-    let mut i: u64 = 0;
-    while i < answers {
-        let q = after_text(sample, p);
-        let is_same = agrees(text_at(sample, p), text_at(sample, q));
-        differ += counted(rt, is_same, i, differ);
-        p = after_text(sample, q);
-        i += 1;
+    let mut place = Some(at);
+    let mut differ = 0;
+    for i in 0..answers {
+        let case = place.and_then(|p| case_at(sample, p));
+        if !case.is_some_and(|(input, answer, _)| agrees(input, answer)) {
+            if differ < 5 {
+                print_number(rt, i);
+            }
+            differ += 1;
+        }
+        place = case.map(|(_, _, next)| next);
     }
-    if p != sample.len() {
+    if place != Some(sample.len()) {
         print_number(rt, answers);
     }
     differ
 }
 
-// Prints how many answers there are and how many differ.
-fn print_summary(rt: &impl Print, answers: u64, differ: u64) {
-    let _ = println!(rt; "{answers} answers of the original, {differ} differ");
-}
-
 // Replays a sample: how many answers there are, and each input with its answer.
 fn replay_all(rt: &impl Print, sample: &[u8]) {
-    match fields::number_at(sample, 0, Width::Eight, false) {
-        Number::Refused { why: _, place: _ } => {
-            let _ = println!(rt; "no sample");
-        }
-        Number::Value { value, next } => {
-            let differ = replay(rt, sample, next, value);
-            print_summary(rt, value, differ);
-        }
-    }
+    let Some((answers, at)) = word_at(sample, 0) else {
+        let _ = println!(rt; "no sample");
+        return;
+    };
+    let differ = replay(rt, sample, at, answers);
+    let _ = println!(rt; "{answers} answers of the original, {differ} differ");
 }
 
 fn main(rt: HostRuntime) {

@@ -1,6 +1,6 @@
 -- An integer scalar's number fits 64 bits: it is at most the bits that it was made of. Assumes
 -- nothing.
-use Rattle.std.specs.Prelude.{if◌then◌else◌}
+use Rattle.std.specs.Prelude.{if◌then◌else◌, Option, Some, None}
 use Prim.Native.Nat.{ℕ, suc, ◌+◌, ◌-◌, ◌%◌, ◌^◌, ◌≤◌}
 use mathlib.Core.Bool.{Bool, true, false, not}
 use native.Mathlib.Omega.{arith}
@@ -8,14 +8,12 @@ use lib.Dec.{eqb, ltb}
 use lib.IntN.{pos, negsuc}
 use Rattle.kinds.specs.Shape.{greatest}
 use Rattle.scalars.specs.Scalars.{signed_of, scalar_of, not_below, natural_of}
-use Rattle.scalars.specs.declared.Natural.{Natural}
-use Rattle.scalars.specs.declared.Natural.TheVariants.{Number, None as NoNumber}
 use Rattle.scalars.specs.declared.Scalar.TheVariants.{U8, I8, U16, I16, U32, I32, F32, Bool as Truth, U64, I64, F64}
 
 -- a number that fits 64 bits, where there is one
-abbrev pub Small : Natural → Type 0
-Small (Number n) = n ≤ greatest
-Small NoNumber = Unit {0}
+abbrev pub Small : Option ℕ → Type 0
+Small (Some n) = n ≤ greatest
+Small None = Unit {0}
 
 -- what is not below 0 of a number of w bits is at most that number
 signed_small : (half n : ℕ) → n ≤ greatest → Small (not_below (signed_of half n))

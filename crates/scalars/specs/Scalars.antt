@@ -1,16 +1,13 @@
 -- Scalars: single values of eleven types. What bits stand for, which bits stand for a scalar, and
 -- its word in a row.
-use Rattle.std.specs.Prelude.{ℕ, suc, ◌%◌, ◌+◌, ◌^◌, ◌≤◌, ◌<◌, ◌-◌, ◌≡◌, not, List, [], ◌∷◌, eqb, ltb, ℤ, pos, negsuc, get_or, if◌then◌else◌}
+use Rattle.std.specs.Prelude.{ℕ, suc, ◌%◌, ◌+◌, ◌^◌, ◌≤◌, ◌<◌, ◌-◌, ◌≡◌, not, List, [], ◌∷◌, eqb, ltb, ℤ, pos, negsuc, get_or, if◌then◌else◌, Option, Some, None}
 use Rattle.std.specs.Int.{w8, w16, w32, w64}
 use Rattle.std.proofs.Common.{of_z}
 use Rattle.fields.specs.Value.{width_of}
 use Rattle.fields.specs.Bytes.{Within}
 use Rattle.scalars.specs.declared.Scalar.{Scalar}
 use Rattle.scalars.specs.declared.Scalar.TheVariants.{U8, I8, U16, I16, U32, I32, F32, Bool as Truth, U64, I64, F64}
-use Rattle.scalars.specs.declared.ScalarWidth.{ScalarWidth}
-use Rattle.scalars.specs.declared.ScalarWidth.TheVariants.{Of, None}
-use Rattle.scalars.specs.declared.Natural.{Natural}
-use Rattle.scalars.specs.declared.Natural.TheVariants.{Number, None as NoNumber}
+use Rattle.fields.specs.declared.Width.{Width}
 
 -- the bytes of a scalar of each of the thirteen value types, and 0 of a string and an array, which
 -- are none
@@ -98,25 +95,25 @@ abbrev pub scalar_words : Scalar → List ℕ
 scalar_words x = scalar_type x ∷ scalar_word x ∷ []
 
 -- an integer that is not below 0
-abbrev pub not_below : ℤ → Natural
-not_below (pos n) = Number n
-not_below (negsuc n) = NoNumber
+abbrev pub not_below : ℤ → Option ℕ
+not_below (pos n) = Some n
+not_below (negsuc n) = None
 
 -- the number of an integer scalar that is not below 0: a float and a bool have none
-abbrev pub natural_of : Scalar → Natural
-natural_of (U8 x) = Number x
+abbrev pub natural_of : Scalar → Option ℕ
+natural_of (U8 x) = Some x
 natural_of (I8 x) = not_below x
-natural_of (U16 x) = Number x
+natural_of (U16 x) = Some x
 natural_of (I16 x) = not_below x
-natural_of (U32 x) = Number x
+natural_of (U32 x) = Some x
 natural_of (I32 x) = not_below x
-natural_of (F32 x) = NoNumber
-natural_of (Truth x) = NoNumber
-natural_of (U64 x) = Number x
+natural_of (F32 x) = None
+natural_of (Truth x) = None
+natural_of (U64 x) = Some x
 natural_of (I64 x) = not_below x
-natural_of (F64 x) = NoNumber
+natural_of (F64 x) = None
 
 -- what the code's answer says: the bytes of a type, and none of one that is no scalar's
-abbrev pub as_width : ScalarWidth → ℕ
-as_width (Of w) = width_of w
+abbrev pub as_width : Option Width → ℕ
+as_width (Some w) = width_of w
 as_width None = 0

@@ -1,15 +1,15 @@
 // Scalars: the eleven types of single values, their widths, their bits, and their words in a row.
 #![tactic(auto)]
 
-ghost use Rattle.std.specs.Prelude.{◌%◌, ◌+◌, ◌<◌, ◌^◌, ◌≤◌, ◌≡◌};
-ghost use Rattle.std.specs.Int.{w64};
-ghost use Rattle.std.proofs.Common.{of_z};
-ghost use Rattle.fields.specs.Value.{as_number, number};
+ghost use Rattle.std.specs.Prelude.{◌<◌, ◌≡◌};
+ghost use Rattle.fields.specs.Value.{number};
 ghost use Rattle.reading.specs.Reading.{run};
+ghost use Rattle.reading.specs.Replies.{as_answer};
 ghost use Rattle.scalars.specs.Scalars.{as_width};
 ghost use Rattle.scalars.specs.Scalars as scalar;
 
-use fields::{GREATEST, Number, Width};
+use fields::Width;
+use reading::Read;
 
 // A scalar of one of eleven types. A float is kept as its bits.
 #[derive(Clone, Copy)]
@@ -27,153 +27,66 @@ pub enum Scalar {
     F64(u64),
 }
 
-// The width of a type: of a scalar's only.
-#[derive(Clone, Copy)]
-pub enum ScalarWidth {
-    Of { width: Width },
-    None,
-}
-
-// A whole number that is not below 0, or that there is none.
-#[derive(Clone, Copy)]
-pub enum Natural {
-    Number { value: u64 },
-    None,
-}
-
-// The number that bits stand for in two's complement, where half is the least bit pattern below 0.
-fn signed(bits: u64, half: u64) -> i64
-    requires { (bits < half + half) × (half ≤ 2 ^ 63) }
-    ensures { result ≡ scalar.signed_of half bits }
-{
-    if bits < half {
-        bits as i64
-    } else {
-        -1 - (((half - 1) - (bits - half)) as i64)
-    }
-}
-
-fn signed8(bits: u64) -> i8
-    ensures { result ≡ scalar.signed_of (2 ^ 7) (bits % 2 ^ 8) }
-{
-    signed(bits % 256, 128) as i8
-}
-
-fn signed16(bits: u64) -> i16
-    ensures { result ≡ scalar.signed_of (2 ^ 15) (bits % 2 ^ 16) }
-{
-    signed(bits % 65536, 32768) as i16
-}
-
-fn signed32(bits: u64) -> i32
-    ensures { result ≡ scalar.signed_of (2 ^ 31) (bits % 2 ^ 32) }
-{
-    signed(bits % 4294967296, 2147483648) as i32
-}
-
 // The scalar of a type that bits stand for. Every type that is no other scalar's is read as the
 // last one's.
 pub fn scalar_of(t: u64, bits: u64) -> Scalar
     ensures { result ≡ scalar.scalar_of t bits }
 {
     match t {
-        0 => Scalar::U8((bits % 256) as u8),
-        1 => Scalar::I8(signed8(bits)),
-        2 => Scalar::U16((bits % 65536) as u16),
-        3 => Scalar::I16(signed16(bits)),
-        4 => Scalar::U32((bits % 4294967296) as u32),
-        5 => Scalar::I32(signed32(bits)),
-        6 => Scalar::F32((bits % 4294967296) as u32),
-        7 => Scalar::Bool(bits % 256 != 0),
+        0 => Scalar::U8((bits % (1 << 8)) as u8),
+        1 => Scalar::I8(((bits % (1 << 8)) as u8).cast_signed()),
+        2 => Scalar::U16((bits % (1 << 16)) as u16),
+        3 => Scalar::I16(((bits % (1 << 16)) as u16).cast_signed()),
+        4 => Scalar::U32((bits % (1 << 32)) as u32),
+        5 => Scalar::I32(((bits % (1 << 32)) as u32).cast_signed()),
+        6 => Scalar::F32((bits % (1 << 32)) as u32),
+        7 => Scalar::Bool(bits % (1 << 8) != 0),
         10 => Scalar::U64(bits),
-        11 => Scalar::I64(signed(bits, 9223372036854775808)),
+        11 => Scalar::I64(bits.cast_signed()),
         _ => Scalar::F64(bits),
     }
 }
 
-// The width of a scalar's type, and that a type is no scalar's.
-pub fn scalar_width(t: u64) -> ScalarWidth
+// The width of a scalar's type. None: no scalar has that type.
+#[tactic(auto, unfolding(crate::specs::Scalars::scalar_width))]
+pub fn scalar_width(t: u64) -> Option<Width>
     ensures { as_width result ≡ scalar.scalar_width t }
 {
     match t {
-        0..=1 | 7 => ScalarWidth::Of { width: Width::One },
-        2..=3 => ScalarWidth::Of { width: Width::Two },
-        4..=6 => ScalarWidth::Of { width: Width::Four },
-        10..=12 => ScalarWidth::Of {
-            width: Width::Eight,
-        },
-        _ => ScalarWidth::None,
+        0..=1 | 7 => Some(Width::One),
+        2..=3 => Some(Width::Two),
+        4..=6 => Some(Width::Four),
+        10..=12 => Some(Width::Eight),
+        _ => None,
     }
 }
 
 // The bits of a scalar of the type t.
-pub fn read_scalar(s: &[u8], at: usize, t: u64, big: bool) -> Number
+pub fn read_scalar(s: &[u8], at: usize, t: u64, big: bool) -> Read<u64>
     requires { 0 < scalar.scalar_width t }
-    ensures { as_number result ≡ run (number (scalar.scalar_width t) big) s.now at }
+    ensures { as_answer result ≡ run (number (scalar.scalar_width t) big) s.now at }
 {
-    match scalar_width(t) {
-        ScalarWidth::None => Number::Refused { why: 1, place: at },
-        ScalarWidth::Of { width } => fields::number_at(s, at, width, big),
-    }
-}
-
-// A signed number that is not below 0.
-fn not_below(n: i64) -> Natural
-    ensures { result ≡ scalar.not_below n }
-{
-    if n < 0 {
-        Natural::None
-    } else {
-        Natural::Number { value: n as u64 }
-    }
+    let Some(width) = scalar_width(t) else {
+        unreachable!()
+    };
+    fields::number_at(s, at, width, big)
 }
 
 // The number of an integer that is not below 0. A float and a bool have none.
-pub fn natural_of(x: Scalar) -> Natural
+pub fn natural_of(x: Scalar) -> Option<u64>
     ensures { result ≡ scalar.natural_of x }
 {
     match x {
-        Scalar::U8(n) => Natural::Number { value: n as u64 },
-        Scalar::I8(n) => not_below(n as i64),
-        Scalar::U16(n) => Natural::Number { value: n as u64 },
-        Scalar::I16(n) => not_below(n as i64),
-        Scalar::U32(n) => Natural::Number { value: n as u64 },
-        Scalar::I32(n) => not_below(n as i64),
-        Scalar::F32(_) => Natural::None,
-        Scalar::Bool(_) => Natural::None,
-        Scalar::U64(n) => Natural::Number { value: n },
-        Scalar::I64(n) => not_below(n),
-        Scalar::F64(_) => Natural::None,
+        Scalar::U8(n) => Some(u64::from(n)),
+        Scalar::I8(n) => u64::try_from(n).ok(),
+        Scalar::U16(n) => Some(u64::from(n)),
+        Scalar::I16(n) => u64::try_from(n).ok(),
+        Scalar::U32(n) => Some(u64::from(n)),
+        Scalar::I32(n) => u64::try_from(n).ok(),
+        Scalar::U64(n) => Some(n),
+        Scalar::I64(n) => u64::try_from(n).ok(),
+        Scalar::F32(_) | Scalar::Bool(_) | Scalar::F64(_) => None,
     }
-}
-
-// The two's complement of x in 64 bits.
-fn to_bits(x: i64) -> u64
-    ensures { result ≡ of_z w64 x }
-{
-    if x < 0 {
-        GREATEST - ((-1 - x) as u64)
-    } else {
-        x as u64
-    }
-}
-
-fn to_bits8(x: i8) -> u64
-    ensures { result ≡ of_z w64 x }
-{
-    to_bits(x as i64)
-}
-
-fn to_bits16(x: i16) -> u64
-    ensures { result ≡ of_z w64 x }
-{
-    to_bits(x as i64)
-}
-
-fn to_bits32(x: i32) -> u64
-    ensures { result ≡ of_z w64 x }
-{
-    to_bits(x as i64)
 }
 
 // A scalar's type, and its word: the first two of a value's words.
@@ -181,16 +94,16 @@ pub fn scalar_words(x: Scalar) -> [u64; 2]
     ensures { result ≡ scalar.scalar_words x }
 {
     match x {
-        Scalar::U8(n) => [0, n as u64],
-        Scalar::I8(n) => [1, to_bits8(n)],
-        Scalar::U16(n) => [2, n as u64],
-        Scalar::I16(n) => [3, to_bits16(n)],
-        Scalar::U32(n) => [4, n as u64],
-        Scalar::I32(n) => [5, to_bits32(n)],
-        Scalar::F32(n) => [6, n as u64],
-        Scalar::Bool(b) => [7, if b { 1 } else { 0 }],
+        Scalar::U8(n) => [0, u64::from(n)],
+        Scalar::I8(n) => [1, i64::from(n).cast_unsigned()],
+        Scalar::U16(n) => [2, u64::from(n)],
+        Scalar::I16(n) => [3, i64::from(n).cast_unsigned()],
+        Scalar::U32(n) => [4, u64::from(n)],
+        Scalar::I32(n) => [5, i64::from(n).cast_unsigned()],
+        Scalar::F32(n) => [6, u64::from(n)],
+        Scalar::Bool(b) => [7, u64::from(b)],
         Scalar::U64(n) => [10, n],
-        Scalar::I64(n) => [11, to_bits(n)],
+        Scalar::I64(n) => [11, n.cast_unsigned()],
         Scalar::F64(n) => [12, n],
     }
 }

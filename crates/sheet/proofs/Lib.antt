@@ -1,5 +1,6 @@
 pub mod BackFromAnswers
 pub mod SheetItems
+pub mod Steps
 pub mod SheetArrays
 pub mod PartsFound
 pub mod Frames

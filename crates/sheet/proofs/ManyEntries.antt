@@ -1,5 +1,6 @@
 -- A turn of the entries of a sheet, and how many there are: those that are left, with those before
 -- them, are all. Assumes nothing.
+use Rattle.std.specs.Prelude.{Result, Ok, Err}
 use Prim.Native.Nat.{ℕ, zero, suc, ◌+◌, ◌-◌, ◌≤◌, ◌<◌}
 use mathlib.Core.Path.{◌≡◌, refl, ap, ◌∙◌}
 use mathlib.Core.List.{List, [], ◌∷◌}
@@ -8,31 +9,30 @@ use native.Mathlib.Omega.{arith}
 use native.Mathlib.Nat.{sub-zero}
 use lib.Dec.{leb, eqb}
 use lib.ListN.{get_or-eq_default, length, get_or}
-use borrow.Author.Tests.{leb-true, leb-false, le-leb}
+use borrow.Author.Tests.{leb-true, leb-false, le-leb, tests}
 use Rattle.reading.specs.Back.{Sure}
 use Rattle.reading.specs.Reading.{Reading, Answer, accepted, refused, run, and_then}
 use Rattle.reading.proofs.SureLaws.{sure_then, sure_done, sure_check}
 use Rattle.values.specs.Contents.{inside_of}
 use Rattle.sheet.specs.Format.{SheetEntry, metadata}
 use Rattle.sheet.specs.Sheet.{as_many_as, is_metadata, Last, follows, next}
-use Rattle.sheet.specs.declared.Counted.{Counted}
-use Rattle.sheet.specs.declared.Counted.TheVariants.{Counts, Bad}
-use Rattle.sheet.proofs.PartsFound.{entry-told, entry-ends}
+use Rattle.sheet.proofs.PartsFound.{entry-told, entry-ends, tensor-ends}
+use Rattle.reading.proofs.RunLaws.{run_bind}
 use Rattle.sheet.proofs.BackFromAnswers.{Refusal}
 use Rattle.sheet.specs.Steps.{count_of}
 
 -- so many more
-abbrev pub added : ℕ → Counted → Counted
-added n (Counts m q) = Counts (n + m) q
-added n (Bad p) = Bad p
+abbrev pub added : ℕ → Result (ℕ × ℕ) ℕ → Result (ℕ × ℕ) ℕ
+added n (Ok x) = Ok (n + x.0, x.1)
+added n (Err p) = Err p
 
-added_none : (x : Counted) → x ≡ added 0 x
-added_none (Counts m q) = ap (λ n. Counts n q) (omega arith)
-added_none (Bad p) = refl
+added_none : (x : Result (ℕ × ℕ) ℕ) → x ≡ added 0 x
+added_none (Ok x) = ap (λ n. Ok (n, x.1)) (omega arith)
+added_none (Err p) = refl
 
 added-one : {A : Type 0} (i : ℕ) (a : A) (r : Answer (List A)) → added i (count_of (and_then r (λ l e. accepted (a ∷ l) e))) ≡ added (i + 1) (count_of r)
 unfolding and_then
-added-one i a (accepted l e) = ap (λ n. Counts n e) (omega arith)
+added-one i a (accepted l e) = ap (λ n. Ok (n, e)) (omega arith)
 added-one i a (refused n p) = refl
 
 module _ {S A : Type 0} (more : List ℕ → ℕ → Bool) (m : S → Reading A) (f : S → A → S) (n : ℕ) (s : List ℕ) (p : ℕ) (z : S) where
@@ -45,11 +45,11 @@ module _ {S A : Type 0} (more : List ℕ → ℕ → Bool) (m : S → Reading A)
   ends (suc k) h = rw h
 
   -- none is left
-  pub many_ends : (i : ℕ) → more s p ≡ false → added i (count_of (as_many_as more m f (n - i) z s p)) ≡ Counts i p
-  many_ends i h = ap (λ r. added i (count_of r)) (ends (n - i) h) ∙ ap (λ k. Counts k p) (omega arith)
+  pub many_ends : (i : ℕ) → more s p ≡ false → added i (count_of (as_many_as more m f (n - i) z s p)) ≡ Ok (i, p)
+  many_ends i h = ap (λ r. added i (count_of r)) (ends (n - i) h) ∙ ap (λ k. Ok (k, p)) (omega arith)
 
   -- the one that follows is bad
-  pub many_stops : (i : ℕ) → i < n → more s p ≡ true → Refusal (run (m z) s p) → added i (count_of (as_many_as more m f (n - i) z s p)) ≡ Bad p
+  pub many_stops : (i : ℕ) → i < n → more s p ≡ true → Refusal (run (m z) s p) → added i (count_of (as_many_as more m f (n - i) z s p)) ≡ Err p
   unfolding as_many_as
   many_stops i below h x = let k : n - i ≡ suc (n - (i + 1)) = omega arith in rw (k, h, ← x.is)
 
@@ -88,3 +88,10 @@ sure_next s last p =
 
 pub next-told : (s : List ℕ) (last : Last) (p : ℕ) {e : SheetEntry} {q : ℕ} → accepted e q ≡ run (next last) s p → (p < q) × (inside_of s e.parts.key ≡ e.content.key)
 next-told s last p {e} {q} r = (sure_next s last p).holds e q r
+
+-- an entry after a key, and a turn of the metadata entries and of the tensors
+pub ruleset next_steps = (run_bind, key-stands)
+
+pub ruleset entries_steps = (many_starts, many_ends, many_stops, many_more, tag_inside, next-told)
+
+pub ruleset tensors_steps = (many_starts, many_ends, many_stops, many_more, tensor-ends, tests)

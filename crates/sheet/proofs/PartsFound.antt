@@ -1,6 +1,6 @@
 -- Where the parts of an accepted entry stand, and what is read there: its key or name is inside the
 -- sheet, and its value can be read again. Assumes nothing.
-use Rattle.std.specs.Prelude.{if◌then◌else◌}
+use Rattle.std.specs.Prelude.{if◌then◌else◌, Some}
 use Prim.Native.Nat.{ℕ, zero, suc, ◌+◌, ◌*◌, ◌^◌, ◌≤◌, ◌<◌}
 use mathlib.Core.Path.{◌≡◌, refl, sym, ap, subst, ◌∙◌}
 use mathlib.Core.List.{List}
@@ -22,7 +22,6 @@ use Rattle.values.specs.Format.{depth}
 use Rattle.tensors.specs.Format.{length_at, lengths_of}
 use Rattle.values.specs.declared.Dialect.{Dialect}
 use Rattle.sheet.specs.declared.EntryParts.{EntryParts}
-use Rattle.sheet.specs.declared.EntryFound.TheVariants.{Found}
 use Rattle.sheet.specs.Sheet.{entry_of}
 use Rattle.sheet.specs.Format.{bytes, Text, text_of, text, scalar, item_type, array, item, value, opening, framed, SheetEntry, entry_body, metadata, shape, big_end, SheetTensor, tensor_body, tensor}
 
@@ -222,7 +221,7 @@ parts_are x a b c d = rw (← a, ← b, ← c, ← d) refl
 pub record EntryStands (s : List ℕ) (p n m : ℕ) : Type 0 where
   pub there : p + 9 + m + 1 ≤ length s
   pub ends : p + 4 + n ≤ length s
-  pub is : Found (parts_there s p m) (p + 4 + n) ≡ entry_of (run metadata s p)
+  pub is : Some (parts_there s p m, p + 4 + n) ≡ entry_of (run metadata s p)
 
 module _ (s : List ℕ) (p : ℕ) where
   stands : (r : Answer SheetEntry) → r ≡ run metadata s p → is_accepted r ≡ true → EntryStands s p (number_there s 4 p) (number_there s 4 (p + 5))
@@ -235,7 +234,7 @@ module _ (s : List ℕ) (p : ℕ) where
       record {
         there = omega (arith, t.valued, t.type_there, place);
         ends = omega (arith, f.1, f.2);
-        is = ap (λ y. Found y (p + 4 + number_there s 4 p)) (sym x) ∙ ap (Found e.parts) (sym f.2) ∙ ap entry_of h;
+        is = ap (λ y. Some (y, p + 4 + number_there s 4 p)) (sym x) ∙ ap (λ o. Some (e.parts, o)) (sym f.2) ∙ ap entry_of h;
       }
 
   -- an entry that was accepted once stands where its own numbers say

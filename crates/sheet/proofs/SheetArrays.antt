@@ -128,3 +128,6 @@ module _ (s : List ℕ) (at : ℕ) {t p : ℕ} (typed : accepted t p ≡ run (nu
 
   pub steps-plain : (t ≡ 9 → ⊥) → step_of (run (array d (item d)) s at) ≡ step_of (run (times n (item 1 t)) s q)
   steps-plain other = steps ∙ alike _ _ (run (times n (item d t)) s q) (run (times n (item 1 t)) s q) (items-plain big_end s d t n q deep (plain_type (d - 1) t fits other) other)
+
+-- the steps of an array
+pub ruleset array_steps = (array-none, array_untyped, array_mistyped, array_uncounted, steps-arrays, steps-plain)

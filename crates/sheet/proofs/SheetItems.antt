@@ -61,3 +61,8 @@ module _ (s : List ℕ) (at : ℕ) where
   pub value_none : (e t : ℕ) → ltb 0 (scalar_width t) ≡ false → (t ≡ 8 → ⊥) → (t ≡ 9 → ⊥) → run (value e t) s at ≡ refused 31 0
   unfolding value run
   value_none e t none other another = rw (none, ne_eqb t 8 other, ne_eqb t 9 another)
+
+-- an item that is no array, and a value, by their type
+pub ruleset item_steps = (has_width, has-none, item-scalar, item-text, item-none)
+
+pub ruleset value_steps = (has_width, has-none, value-scalar, value-text, value-array, value_none)

@@ -1,20 +1,14 @@
 -- A record sheet: the version byte 1, the metadata entries with their keys in order, and the
 -- tensors, used up exactly.
-use Rattle.std.specs.Prelude.{ℕ, zero, suc, ◌+◌, Bool, true, List, [], ◌∷◌, ltb, eqb, length, get_or, if◌then◌else◌}
+use Rattle.std.specs.Prelude.{ℕ, zero, suc, ◌+◌, Bool, true, List, [], ◌∷◌, ltb, eqb, length, get_or, if◌then◌else◌, Option, Some, None, Result, Ok, Err}
 use Rattle.fields.specs.Order.{before}
 use Rattle.reading.specs.Reading.{Reading, done, Answer, accepted, refused, run, ◌>>=◌, ◌>>◌, and_then}
 use Rattle.values.specs.Contents.{inside_of}
 use Rattle.sheet.specs.Format.{must, Text, SheetEntry, metadata, SheetTensor, tensor}
-use Rattle.sheet.specs.declared.Before.{Before}
-use Rattle.sheet.specs.declared.Before.TheVariants.{None, At}
-use Rattle.sheet.specs.declared.TextFound.{TextFound}
-use Rattle.sheet.specs.declared.TextFound.TheVariants.{Found as FoundText, Bad as NoText}
-use Rattle.sheet.specs.declared.EntryFound.{EntryFound}
-use Rattle.sheet.specs.declared.EntryFound.TheVariants.{Found as FoundEntry, Bad as NoEntry}
-use Rattle.sheet.specs.declared.TensorFound.{TensorFound}
-use Rattle.sheet.specs.declared.TensorFound.TheVariants.{Found as FoundTensor, Bad as NoTensor}
-use Rattle.sheet.specs.declared.Checked.{Checked}
-use Rattle.sheet.specs.declared.Checked.TheVariants.{WellFormed, Bad as BadAt}
+use Rattle.values.specs.declared.Span.{Span}
+use Rattle.sheet.specs.declared.EntryParts.{EntryParts}
+use Rattle.sheet.specs.declared.TensorParts.{TensorParts}
+use Rattle.sheet.specs.declared.Counts.{Counts}
 
 -- one more, where it could be read, and those after it; the first that could not is refusal 31 at
 -- its start
@@ -42,9 +36,9 @@ follows no_key key = true
 follows (last_key last) key = before last key
 
 -- the key before, from its place in the sheet
-abbrev pub last_in : List ℕ → Before → Last
+abbrev pub last_in : List ℕ → Option Span → Last
 last_in s None = no_key
-last_in s (At span) = last_key (inside_of s span)
+last_in s (Some span) = last_key (inside_of s span)
 
 -- a metadata entry after that key
 unfoldable pub next : Last → Reading SheetEntry
@@ -88,22 +82,22 @@ sheet_of s =
 -- What the code's answers say.
 
 -- a text's place, and the place after it
-abbrev pub span_of : Answer Text → TextFound
-span_of (accepted a q) = FoundText a.span q
-span_of (refused n p) = NoText
+abbrev pub span_of : Answer Text → Option (Span × ℕ)
+span_of (accepted a q) = Some (a.span, q)
+span_of (refused n p) = None
 
 -- the parts of an entry, and the place after it
-abbrev pub entry_of : Answer SheetEntry → EntryFound
-entry_of (accepted e q) = FoundEntry e.parts q
-entry_of (refused n p) = NoEntry
+abbrev pub entry_of : Answer SheetEntry → Option (EntryParts × ℕ)
+entry_of (accepted e q) = Some (e.parts, q)
+entry_of (refused n p) = None
 
 -- the parts of a tensor, and the place after it
-abbrev pub tensor_of : Answer SheetTensor → TensorFound
-tensor_of (accepted t q) = FoundTensor t.parts q
-tensor_of (refused n p) = NoTensor
+abbrev pub tensor_of : Answer SheetTensor → Option (TensorParts × ℕ)
+tensor_of (accepted t q) = Some (t.parts, q)
+tensor_of (refused n p) = None
 
 -- how many metadata entries and how many tensors there are, and where the tensors begin; or the
 -- first entry that is bad
-abbrev pub checked_of : Answer Records → Checked
-checked_of (accepted c e) = WellFormed (length c.entries) (length c.tensors) c.first
-checked_of (refused n p) = BadAt p
+abbrev pub checked_of : Answer Records → Result Counts ℕ
+checked_of (accepted c e) = Ok (record { entries = length c.entries; tensors = length c.tensors; first = c.first })
+checked_of (refused n p) = Err p

@@ -4,3 +4,4 @@ pub mod StartBack
 pub mod StartEnds
 pub mod FormKnown
 pub mod StartRefusals
+pub mod Steps

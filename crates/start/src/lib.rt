@@ -4,12 +4,12 @@
 ghost use Rattle.std.specs.Prelude.{◌+◌, ◌≡◌};
 ghost use Rattle.reading.specs.Ceilings.{under};
 ghost use Rattle.reading.specs.Reading.{run};
-ghost use Rattle.start.specs.Answers.{as_magic, as_start, as_version};
-ghost use Rattle.values.specs.Format.{entry, size_width};
+ghost use Rattle.reading.specs.Replies.{as_answer};
+ghost use Rattle.values.specs.Format.{size_width};
 ghost use Rattle.start.specs.Format as format;
 
-use fields::{Number, Width};
-use reading::Limits;
+use fields::Width;
+use reading::{Limits, Read, Reason, Refusal};
 use values::Dialect;
 
 // How many rows there are.
@@ -19,16 +19,12 @@ pub struct Rooms {
     pub tensors: u64,
 }
 
-#[derive(Clone, Copy)]
-pub enum MagicRead {
-    Found { turned: bool, next: usize },
-    Refused { why: u64, place: usize },
-}
-
-#[derive(Clone, Copy)]
-pub enum VersionRead {
-    Found { dialect: Dialect, next: usize },
-    Refused { why: u64, place: usize },
+impl Rooms {
+    // Rows for any count that a header can tell.
+    pub const ENOUGH: Rooms = Rooms {
+        entries: u64::MAX,
+        tensors: u64::MAX,
+    };
 }
 
 // What stands before the first record.
@@ -39,52 +35,38 @@ pub struct Start {
     pub entries: u64,
 }
 
-#[derive(Clone, Copy)]
-pub enum StartRead {
-    Found { start: Start, next: usize },
-    Refused { why: u64, place: usize },
-}
-
 // Whether a number is the magic of a format before this one.
 fn is_older(magic: u64) -> bool
     ensures { result ≡ format.older_magic magic }
 {
-    match magic {
-        0x67676d6c | 0x67676d66 | 0x67676a74 | 0x67676c61 => true,
-        _ => false,
-    }
+    matches!(magic, 0x67676d6c | 0x67676d66 | 0x67676a74 | 0x67676c61)
 }
 
 // The magic: whether its bytes are turned round.
-fn read_magic(s: &[u8]) -> MagicRead
-    ensures { as_magic result ≡ run format.magic s.now 0 }
+#[tactic(auto, using(reading::proofs::RunLaws::run_bind), unfolding(crate::specs::Format::magic, reading::specs::Reading::here, reading::specs::Reading::run, reading::specs::Reading::and_then))]
+fn read_magic(s: &[u8]) -> Read<bool>
+    ensures { as_answer result ≡ run format.magic s.now 0 }
 {
-    let Number::Value { value, next } = fields::number_at(s, 0, Width::Four, false) else {
-        return MagicRead::Refused { why: 1, place: 0 };
-    };
-    if value == 0x46554747 {
-        return MagicRead::Found {
-            turned: false,
-            next,
-        };
+    let (magic, next) = fields::number_at(s, 0, Width::Four, false)?;
+    match magic {
+        0x46554747 => Ok((false, next)),
+        0x47475546 => Ok((true, next)),
+        _ if is_older(magic) => Err(Refusal {
+            why: Reason::OlderFormat,
+            place: 0,
+        }),
+        _ => Err(Refusal {
+            why: Reason::NotGguf,
+            place: 0,
+        }),
     }
-    if value == 0x47475546 {
-        return MagicRead::Found { turned: true, next };
-    }
-    if is_older(value) {
-        return MagicRead::Refused { why: 2, place: 0 };
-    }
-    MagicRead::Refused { why: 3, place: 0 }
 }
 
 // Versions 1 to 3.
 fn is_version(version: u64) -> bool
     ensures { result ≡ format.known_version version }
 {
-    if version == 0 {
-        return false;
-    }
-    version <= 3
+    (1..=3).contains(&version)
 }
 
 // Whether a file can have this form: the big-endian one behind a magic that is not turned round is
@@ -92,105 +74,87 @@ fn is_version(version: u64) -> bool
 pub fn is_known(dialect: Dialect) -> bool
     ensures { result ≡ format.known_dialect dialect }
 {
-    if dialect.big {
-        if dialect.turned {
-            return is_version(dialect.version);
-        }
-        return dialect.version == 3;
+    match (dialect.big, dialect.turned) {
+        (true, false) => dialect.version == 3,
+        (false, true) => false,
+        _ => is_version(dialect.version),
     }
-    if dialect.turned {
-        return false;
-    }
-    is_version(dialect.version)
 }
 
 // What a version's number says, read in the byte order of the magic.
 fn dialect_by(turned: bool, version: u64) -> Dialect
     ensures { result ≡ format.dialect_by turned version }
 {
-    if turned {
-        return Dialect {
-            version,
-            big: true,
-            turned: true,
-        };
-    }
-    if version == 0x03000000 {
-        return Dialect {
-            version: 3,
-            big: true,
-            turned: false,
-        };
-    }
+    let (version, big) = match version {
+        0x03000000 if !turned => (3, true),
+        _ => (version, turned),
+    };
     Dialect {
         version,
-        big: false,
-        turned: false,
+        big,
+        turned,
     }
 }
 
 // The version and the byte order, where the version is not above the reader's ceiling.
-fn read_version(s: &[u8], at: usize, turned: bool, limits: Limits) -> VersionRead
-    ensures { as_version result ≡ run (under limits (format.version turned)) s.now at }
+#[tactic(auto, using(crate::proofs::Steps::steps), unfolding(crate::specs::Format::version, reading::specs::Reading::here, reading::specs::Reading::run, reading::specs::Reading::and_then, reading::specs::Ceilings::under))]
+fn read_version(s: &[u8], at: usize, turned: bool, limits: Limits) -> Read<Dialect>
+    ensures { as_answer result ≡ run (under limits (format.version turned)) s.now at }
 {
-    let Number::Value { value, next } = fields::number_at(s, at, Width::Four, turned) else {
-        return VersionRead::Refused { why: 1, place: at };
-    };
-    let dialect = dialect_by(turned, value);
+    let (version, next) = fields::number_at(s, at, Width::Four, turned)?;
+    let dialect = dialect_by(turned, version);
     if !is_known(dialect) {
-        return VersionRead::Refused { why: 4, place: at };
+        return Err(Refusal {
+            why: Reason::UnknownVersion,
+            place: at,
+        });
     }
     if limits.versions < dialect.version {
-        return VersionRead::Refused { why: 5, place: at };
+        return Err(Refusal {
+            why: Reason::VersionAboveCeiling,
+            place: at,
+        });
     }
-    VersionRead::Found { dialect, next }
+    Ok((dialect, next))
 }
 
 // The two counts, where there are rows for as many.
-fn read_counts(s: &[u8], at: usize, dialect: Dialect, rooms: Rooms) -> StartRead
-    ensures { as_start result ≡ run (format.counts rooms dialect) s.now at }
+#[tactic(auto, using(reading::proofs::RunLaws::run_bind), unfolding(crate::specs::Format::counts, reading::specs::Reading::here, reading::specs::Reading::run, reading::specs::Reading::and_then))]
+fn read_counts(s: &[u8], at: usize, dialect: Dialect, rooms: Rooms) -> Read<Start>
+    ensures { as_answer result ≡ run (format.counts rooms dialect) s.now at }
 {
-    match values::read_version_size(s, at, dialect) {
-        Number::Refused { why, place } => StartRead::Refused { why, place },
-        Number::Value {
-            value: tensors,
-            next: p,
-        } => match values::read_version_size(s, p, dialect) {
-            Number::Refused { why, place } => StartRead::Refused { why, place },
-            Number::Value {
-                value: entries,
-                next,
-            } => {
-                if rooms.tensors < tensors {
-                    return StartRead::Refused { why: 6, place: at };
-                }
-                if rooms.entries < entries {
-                    return StartRead::Refused { why: 6, place: p };
-                }
-                StartRead::Found {
-                    start: Start {
-                        dialect,
-                        tensors,
-                        entries,
-                    },
-                    next,
-                }
-            }
-        },
+    let (tensors, entries_at) = values::read_version_size(s, at, dialect)?;
+    let (entries, next) = values::read_version_size(s, entries_at, dialect)?;
+    if rooms.tensors < tensors {
+        return Err(Refusal {
+            why: Reason::TooFewRows,
+            place: at,
+        });
     }
+    if rooms.entries < entries {
+        return Err(Refusal {
+            why: Reason::TooFewRows,
+            place: entries_at,
+        });
+    }
+    Ok((
+        Start {
+            dialect,
+            tensors,
+            entries,
+        },
+        next,
+    ))
 }
 
 // All that stands before the first record.
-pub fn read_start(s: &[u8], limits: Limits, rooms: Rooms) -> StartRead
-    ensures { as_start result ≡ run (under limits (format.start rooms)) s.now 0 }
+#[tactic(auto, using(crate::proofs::Steps::steps), unfolding(crate::specs::Format::start, reading::specs::Reading::and_then))]
+pub fn read_start(s: &[u8], limits: Limits, rooms: Rooms) -> Read<Start>
+    ensures { as_answer result ≡ run (under limits (format.start rooms)) s.now 0 }
 {
-    match read_magic(s) {
-        MagicRead::Refused { why, place } => StartRead::Refused { why, place },
-        MagicRead::Found { turned, next: p } => match read_version(s, p, turned, limits) {
-            VersionRead::Refused { why, place } => StartRead::Refused { why, place },
-            VersionRead::Found { dialect, next } => read_counts(s, next, dialect, rooms),
-        },
-    }
+    let (turned, version_at) = read_magic(s)?;
+    let (dialect, counts_at) = read_version(s, version_at, turned, limits)?;
+    read_counts(s, counts_at, dialect, rooms)
 }
 
 // Where the entries begin: past the magic, the version and the two counts.

@@ -27,8 +27,6 @@ use Rattle.header.specs.Answers.{reader_run}
 use Rattle.header.specs.Format.{latest, header}
 use Rattle.start.specs.Format.{magic, version, counts, start}
 use Rattle.header.specs.declared.Header.{Header}
-use Rattle.header.specs.declared.HeaderRead.{HeaderRead}
-use Rattle.header.specs.declared.HeaderRead.TheVariants.{Found, Refused}
 use Rattle.start.specs.declared.Rooms.{Rooms}
 use Rattle.start.specs.declared.Start.{Start}
 use Rattle.header.proofs.DataStart.{kept-alignment}
@@ -125,11 +123,11 @@ module _ (l : Limits) (cap : ℕ) (rooms : Rooms) (s : List ℕ) (c : Start) (p 
   abbrev ours : Answer Header
   ours = seen (λ w. w.head) (run (under l (header rooms cap)) s 0)
 
-  same-told : (a q : ℕ) → Aligned l enough 3 s c p a q → Aligned l rooms cap s c p a q → (h : HeaderRead) → h ≡ told l rooms cap s c a q → ours ≡ measured l s
+  same-told : (a q : ℕ) → Aligned l enough 3 s c p a q → Aligned l rooms cap s c p a q → (r : Answer Header) → r ≡ told l rooms cap s c a q → ours ≡ measured l s
   unfolding seen
-  same-told a q f g (Refused n u) t =
+  same-told a q f g (refused n u) t =
       ap (seen (λ w. w.head)) (no_header l rooms cap s begins g t ∙ sym (no_header l enough 3 s began f t))
-  same-told a q f g (Found h) t =
+  same-told a q f g (accepted h o) t =
       ap (seen (λ w. w.head)) (reached l rooms cap s begins g t).all ∙ sym (ap (seen (λ w. w.head)) (reached l enough 3 s began f t).all)
 
   same_entries : (r : Answer ℕ) → r ≡ seen (fold latest 32) (run (times c.entries (entry c.dialect 3)) s p) → ours ≡ measured l s

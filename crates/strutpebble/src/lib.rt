@@ -21,7 +21,6 @@ ghost use Rattle.values.specs.Rows.{entry_row};
 ghost use Rattle.words.specs.Words.{dialect_of, entry_number, entry_words, measured, number_of, range_number, range_words, replay_number, replay_words, row_after, string_number, string_words, tensor_number, tensor_words, type_number, type_words, words_of, written_number, written_words};
 ghost use Rattle.writer.specs.Output.{header_for, left_by, written_of};
 
-use fields::GREATEST;
 use reading::Limits;
 use rows::{EntryRow, TensorRow};
 use start::Rooms;
@@ -64,8 +63,7 @@ pub extern "C" fn sp_read(
 {
     let limits = ceilings(versions, kinds);
     let read = header::read(prefix, limits, cap, entries, tensors);
-    *answer = words::words_of(read);
-    words::number_of(read)
+    words::tell(read, answer)
 }
 
 // Measures a header, whatever its counts: 0 with its words in answer, of which the counts are the
@@ -75,13 +73,8 @@ pub extern "C" fn sp_measure(prefix: &[u8], versions: u32, kinds: u32, answer: &
     ensures value { result ≡ number_of (measured (record { versions = versions; kinds = kinds }) prefix.now) }
     ensures answer_after { answer.new ≡ words_of (measured (record { versions = versions; kinds = kinds }) prefix.now) }
 {
-    let rooms = Rooms {
-        entries: GREATEST,
-        tensors: GREATEST,
-    };
-    let read = header::measure(prefix, ceilings(versions, kinds), 3, rooms);
-    *answer = words::words_of(read);
-    words::number_of(read)
+    let read = header::measure(prefix, ceilings(versions, kinds), 3, Rooms::ENOUGH);
+    words::tell(read, answer)
 }
 
 // Whether the data of every tensor row ends inside a file: 0, or 20 with the number of the first
@@ -97,8 +90,7 @@ pub extern "C" fn sp_check_ranges(
     ensures answer_after { answer.new ≡ range_words (check_from data_start file_length 0 tensors.now) }
 {
     let check = ranges::check_ranges(tensors, data_start, file_length);
-    *answer = words::range_words(check);
-    words::range_number(check)
+    words::tell(check, answer)
 }
 
 // Replays a trace of fetches: 0 with the first record in answers, for each tensor row, after which
@@ -118,8 +110,7 @@ pub extern "C" fn sp_replay_fetches(
     ensures answers_after { answers.new ≡ filled same answers.old (replayed tensors.now data_start file_length trace.now (length answers.old)) }
 {
     let replay = fetches::replay_fetches(tensors, data_start, file_length, trace, answers);
-    *answer = words::replay_words(replay);
-    words::replay_number(replay)
+    words::tell(replay, answer)
 }
 
 // Looks a key up: 0 with the row of its last entry in answer, or 100 where there is none, or the
@@ -130,8 +121,7 @@ pub extern "C" fn sp_find(prefix: &[u8], key: &[u8], answer: &mut [u64; 8]) -> u
     ensures answer_after { answer.new ≡ entry_words (lookup key.now prefix.now) }
 {
     let found = lookup::find(prefix, key);
-    *answer = words::entry_words(found);
-    words::entry_number(found)
+    words::tell(found, answer)
 }
 
 // The string of a key: 0 with its place and length in answer, or 100 where there is no such key,
@@ -172,8 +162,7 @@ pub extern "C" fn sp_find_tensor(
 {
     let found = lookup::find_tensor(prefix, name);
     words::put_tensor(found, tensor);
-    *answer = words::tensor_words(found);
-    words::tensor_number(found)
+    words::tell(found, answer)
 }
 
 // The file's type: 0 with its number in answer, or 102 where it is unknown, or the refusal's number
@@ -183,9 +172,8 @@ pub extern "C" fn sp_file_type(prefix: &[u8], answer: &mut [u64; 8]) -> u64
     ensures value { result ≡ type_number (file_type_in (lookup file_type_key prefix.now)) }
     ensures answer_after { answer.new ≡ type_words (file_type_in (lookup file_type_key prefix.now)) }
 {
-    let read = lookup::file_type(prefix);
-    *answer = words::type_words(read);
-    words::type_number(read)
+    let file_type = lookup::file_type(prefix);
+    words::tell(file_type, answer)
 }
 
 // How a file is written: its version, and its byte order by number, in which any but 0 is big-endian
@@ -218,6 +206,5 @@ pub extern "C" fn sp_write(
 {
     let dialect = dialect_of(version, order);
     let written = writer::write_header(sheet, dialect, alignment, out);
-    *answer = words::written_words(written);
-    words::written_number(written)
+    words::tell(written, answer)
 }

@@ -42,3 +42,6 @@ cut-filled (y ∷ ys) (row ∷ rows) zero zero h = refl
 cut-filled (y ∷ ys) (row ∷ rows) zero (suc n) h = absurd (omega (arith, h))
 cut-filled (y ∷ ys) (row ∷ rows) (suc i) zero h = absurd (omega (arith, h))
 cut-filled (y ∷ ys) (row ∷ rows) (suc i) (suc n) h = ap (λ (l : List TensorRecord). record_of row ∷ l) (cut-filled ys rows i n (omega (arith, h)))
+
+-- what a loop that fills them needs
+pub ruleset fill_steps = (none_filled, next-filled, cut-filled)

@@ -1,5 +1,6 @@
 -- A table of which only the first part is lent to a reader is filled as if it had been lent whole,
 -- with room for as many as the part has. Assumes nothing.
+use Rattle.std.specs.Prelude.{Result}
 use Prim.Native.Nat.{ℕ, zero, suc, ◌≤◌, min}
 use mathlib.Core.Path.{◌≡◌, refl, sym, ap, ◌∙◌}
 use mathlib.Core.List.{List, [], ◌∷◌, ◌++◌, map, append_assoc}
@@ -12,8 +13,9 @@ use Rattle.reading.specs.declared.Limits.{Limits}
 use Rattle.values.specs.Rows.{entry_row}
 use Rattle.tensors.specs.Rows.{tensor_row}
 use Rattle.header.specs.Format.{header, FullHeader}
+use Rattle.reading.specs.declared.Refusal.{Refusal}
+use Rattle.header.specs.declared.Header.{Header}
 use Rattle.header.specs.Answers.{as_header, reader_run}
-use Rattle.header.specs.declared.HeaderRead.{HeaderRead}
 use Rattle.header.proofs.Counted.{counted}
 
 -- what is left of a part, and what follows the part
@@ -42,7 +44,7 @@ module _ (limits : Limits) (cap : ℕ) (es rs : List (List ℕ)) (s : List ℕ) 
       let g = length-take room rs in
       omega (arith, c.tensors, c.tensor_room, g, e)
 
-  pub part-read : (r : HeaderRead) {E R : List (List ℕ)} → as_header r ≡ seen (λ w. w.head) (reader_run limits cap es (take d rs) s) → E ≡ filled entry_row es (seen (λ w. w.entries) (reader_run limits cap es (take d rs) s))
+  pub part-read : (r : Result Header Refusal) {E R : List (List ℕ)} → as_header r ≡ seen (λ w. w.head) (reader_run limits cap es (take d rs) s) → E ≡ filled entry_row es (seen (λ w. w.entries) (reader_run limits cap es (take d rs) s))
       → R ≡ filled tensor_row (take d rs) (seen (λ w. w.tensors) (reader_run limits cap es (take d rs) s))
       → (as_header r ≡ seen (λ w. w.head) (reader_run limits cap es (take room rs) s)) × ((E ≡ filled entry_row es (seen (λ w. w.entries) (reader_run limits cap es (take room rs) s)))
       × (R ++ drop d rs ≡ filled tensor_row rs (seen (λ w. w.tensors) (reader_run limits cap es (take room rs) s))))

@@ -1,17 +1,15 @@
 -- A row as a record, and what the functions over a slice of records answer and leave there.
-use Rattle.std.specs.Prelude.{ℕ, Bool, List, [], ◌∷◌, ltb, length, get_or, set, take, if◌then◌else◌}
+use Rattle.std.specs.Prelude.{ℕ, Bool, List, [], ◌∷◌, ltb, length, get_or, set, take, if◌then◌else◌, Option, Some, None, Result, Ok, Err}
 use Rattle.reading.specs.Reading.{Answer}
 use Rattle.reading.specs.declared.Limits.{Limits}
 use Rattle.tensors.specs.Rows.{tensor_row}
 use Rattle.tensors.specs.declared.Tensor.{Tensor}
 use Rattle.header.specs.Format.{FullHeader}
+use Rattle.reading.specs.declared.Refusal.{Refusal}
+use Rattle.header.specs.declared.Header.{Header}
 use Rattle.header.specs.Answers.{reader_run}
-use Rattle.header.specs.declared.HeaderRead.{HeaderRead}
-use Rattle.header.specs.declared.HeaderRead.TheVariants.{Found as FoundHeader, Refused as NoHeader}
 use Rattle.rows.specs.Columns.{place_in, length_in, kind_in, dimensions_in, first_length_in, second_length_in, third_length_in, fourth_length_in, offset_in, size_in}
 use Rattle.tensor_records.specs.declared.TensorRecord.{TensorRecord}
-use Rattle.tensor_records.specs.declared.RecordGot.{RecordGot}
-use Rattle.tensor_records.specs.declared.RecordGot.TheVariants.{Found, Nothing}
 
 -- a row of ten words as a record
 abbrev pub record_of : List ℕ → TensorRecord
@@ -41,8 +39,8 @@ abbrev pub blank : TensorRecord
 blank = record_of []
 
 -- the record with the number i, where there is one
-abbrev pub got_at : List TensorRecord → ℕ → RecordGot
-got_at records i = if kept_of records i then Found (get_or records i blank) else Nothing
+abbrev pub got_at : List TensorRecord → ℕ → Option TensorRecord
+got_at records i = if kept_of records i then Some (get_or records i blank) else None
 
 -- the records with those of the rows in front, as far as there are both
 abbrev pub filled_from : List TensorRecord → List (List ℕ) → List TensorRecord
@@ -51,9 +49,9 @@ filled_from (r ∷ records) [] = r ∷ records
 filled_from (r ∷ records) (row ∷ rows) = record_of row ∷ filled_from records rows
 
 -- how many tensors an answer counts
-abbrev pub tensors_in : HeaderRead → ℕ
-tensors_in (FoundHeader h) = h.tensors
-tensors_in (NoHeader n p) = 0
+abbrev pub tensors_in : Result Header Refusal → ℕ
+tensors_in (Ok h) = h.tensors
+tensors_in (Err e) = 0
 
 -- a tensor's record: its row's
 abbrev pub tensor_record : Tensor → TensorRecord

@@ -12,8 +12,8 @@ ghost use Rattle.tensors.specs.Rows.{tensor_row};
 ghost use Rattle.header.specs.Answers.{as_header, reader_run};
 ghost use Rattle.tensor_records.specs.Records.{record_of, got_at, kept_of, put_at, filled_from, tensors_in, tensor_record, listing_of};
 
-use header::HeaderRead;
-use reading::Limits;
+use header::Header;
+use reading::{Limits, Refusal};
 use rows::{
     DIMENSIONS, EntryRow, FIRST_LENGTH, FOURTH_LENGTH, KIND, NAME_LENGTH, NAME_PLACE, OFFSET,
     SECOND_LENGTH, SIZE, THIRD_LENGTH, TensorRow,
@@ -35,24 +35,15 @@ pub struct TensorRecord {
     pub size: u64,
 }
 
-// A record that is asked for by its number.
-#[derive(Clone, Copy)]
-pub enum RecordGot {
-    Found { record: TensorRecord },
-    Nothing,
-}
-
 // The record with the number i, where there is one.
-pub fn get(records: &[TensorRecord], i: usize) -> RecordGot
+pub fn get(records: &[TensorRecord], i: usize) -> Option<TensorRecord>
     ensures { result ≡ got_at records.now i }
 {
-    if i < records.len() {
-        return RecordGot::Found { record: records[i] };
-    }
-    RecordGot::Nothing
+    records.get(i).copied()
 }
 
-// Stores a record at the number i, and answers whether there is one; else nothing changes.
+// Stores a record at the number i, and answers whether there is one; else nothing changes. By index:
+// of what is written through `get_mut` the proof would know nothing.
 pub fn put(records: &mut [TensorRecord], i: usize, tensor: TensorRecord) -> bool
     ensures { (result ≡ kept_of records.old i) × (records.new ≡ put_at records.old i tensor) }
 {
@@ -81,38 +72,15 @@ pub fn record_of(row: TensorRow) -> TensorRecord
     }
 }
 
-// The smaller of two counts.
-fn shorter(a: usize, b: usize) -> usize
-    ensures { result ≡ min a b }
-{
-    if a < b { a } else { b }
-}
-
-// The least of three counts.
-fn least(n: usize, rows: usize, records: usize) -> usize
-    ensures { result ≡ min n (min rows records) }
-{
-    shorter(n, shorter(rows, records))
-}
-
-// The record of row i.
-fn record_at(rows: &[TensorRow], i: usize) -> TensorRecord
-    requires { i < length rows.now }
-    ensures { result ≡ record_of (get_or rows.now i []) }
-{
-    record_of(rows[i])
-}
-
 // Fills the first records from the first n rows, as far as there are both, and answers how many it
-// filled. The other records stay as they were.
+// filled. The other records stay as they were. By index, as in `put`.
+#[tactic(auto, using(crate::proofs::Filled::fill_steps))]
 pub fn fill(records: &mut [TensorRecord], rows: &[TensorRow], n: usize) -> usize
     ensures { (result ≡ min n (min (length rows.now) (length records.old))) × (records.new ≡ filled_from records.old (take n rows.now)) }
 {
-    let count = least(n, rows.len(), records.len());
-    let mut i: usize = 0;
-    while i < count {
-        records[i] = record_at(rows, i);
-        i += 1;
+    let count = n.min(rows.len()).min(records.len());
+    for i in 0..count {
+        records[i] = record_of(rows[i]);
     }
     count
 }
@@ -125,28 +93,26 @@ fn read_within(
     entries: &mut [EntryRow],
     rows: &mut [TensorRow],
     room: usize,
-) -> HeaderRead
+) -> Result<Header, Refusal>
     ensures result_value { as_header result ≡ seen (λ w. w.head) (reader_run limits cap entries.old (take room rows.old) s.now) }
     ensures entries_after { entries.new ≡ filled entry_row entries.old (seen (λ w. w.entries) (reader_run limits cap entries.old (take room rows.old) s.now)) }
     ensures rows_after { rows.new ≡ filled tensor_row rows.old (seen (λ w. w.tensors) (reader_run limits cap entries.old (take room rows.old) s.now)) }
 {
-    let end = shorter(room, rows.len());
-    header::read(s, limits, cap, entries, &mut rows[0..end])
+    let end = room.min(rows.len());
+    header::read(s, limits, cap, entries, &mut rows[..end])
 }
 
 // How many tensors an answer counts.
-fn tensors_in(answer: HeaderRead) -> usize
+fn tensors_in(answer: Result<Header, Refusal>) -> usize
     ensures { result ≡ tensors_in answer }
 {
-    match answer {
-        HeaderRead::Refused { why: _, place: _ } => 0,
-        HeaderRead::Found { header } => header.tensors as usize,
-    }
+    answer.map_or(0, |header| header.tensors as usize)
 }
 
 // Reads a header as `header::read` does, and lists its tensors as records too. The rows are what it
 // works on: there is room for no more tensors than there are rows and records. Where it refuses,
 // all that it was lent stays as it was.
+#[tactic(auto, using(crate::proofs::Listed::listed))]
 pub fn read_records(
     s: &[u8],
     limits: Limits,
@@ -154,7 +120,7 @@ pub fn read_records(
     entries: &mut [EntryRow],
     rows: &mut [TensorRow],
     records: &mut [TensorRecord],
-) -> HeaderRead
+) -> Result<Header, Refusal>
     ensures result_value { as_header result ≡ seen (λ w. w.head) (listing_of limits cap entries.old rows.old records.old s.now) }
     ensures entries_after { entries.new ≡ filled entry_row entries.old (seen (λ w. w.entries) (listing_of limits cap entries.old rows.old records.old s.now)) }
     ensures rows_after { rows.new ≡ filled tensor_row rows.old (seen (λ w. w.tensors) (listing_of limits cap entries.old rows.old records.old s.now)) }

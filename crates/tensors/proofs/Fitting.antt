@@ -1,5 +1,6 @@
 -- What must fit of a tensor, as one step: whoever walks through a tensor's program takes it from
 -- here, and does not see its tests. Assumes nothing.
+use Rattle.std.specs.Prelude.{Some, None}
 use Prim.Native.Nat.{ℕ, ◌+◌, ◌*◌, ◌/◌, ◌≤◌, ◌<◌}
 use mathlib.Core.Path.{◌≡◌, refl}
 use mathlib.Core.List.{List, [], ◌∷◌}
@@ -15,7 +16,6 @@ use Rattle.reading.proofs.RefusalLaws.{refuses_then, refuses_done, refuses_check
 use Rattle.reading.proofs.SureLaws.{sure_done, sure_check}
 use Rattle.kinds.specs.Shape.{greatest, first_length, whole_blocks, product_of, products_fit, bounded_product, size_within, size_of}
 use Rattle.kinds.specs.Table.{block_of}
-use Rattle.kinds.specs.declared.Bounded.TheVariants.{Fits, Over}
 use Rattle.kinds.proofs.Products.{answered, refused as over}
 use Rattle.tensors.specs.Format.{lengths, fitting}
 use Rattle.values.specs.declared.Span.{Span}
@@ -84,11 +84,11 @@ module _ (p total : ℕ) (name : Span) (x : Shape) (y : KindAndOffset) (q : ℕ)
   no_whole w = rw (← w)
 
   module _ (w : true ≡ whole_blocks x.first y.kind) where
-    pub no_product : Over ≡ bounded_product (lengths x) → refused 13 p ≡ run (fitting p total name x y) [] q
+    pub no_product : None ≡ bounded_product (lengths x) → refused 13 p ≡ run (fitting p total name x y) [] q
     unfolding run ◌>>=◌
     no_product e = rw (← w, over (products_fit (lengths x)) _ e)
 
-    module _ {n : ℕ} (e : Fits n ≡ bounded_product (lengths x)) where
+    module _ {n : ℕ} (e : Some n ≡ bounded_product (lengths x)) where
       pub no_size : false ≡ leb (n * (block_of y.kind).bytes) greatest → refused 14 p ≡ run (fitting p total name x y) [] q
       unfolding run ◌>>=◌
       no_size f = let h = answered (products_fit (lengths x)) _ e in rw (← w, h.0, h.1, ← f)

@@ -7,3 +7,4 @@ pub mod Examples
 pub mod Totals
 pub mod TensorRefusals
 pub mod TensorsEnd
+pub mod Steps

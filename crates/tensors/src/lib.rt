@@ -5,11 +5,10 @@
 #![tactic(auto)]
 
 ghost use Rattle.std.specs.Prelude.{◌*◌, ◌+◌, ◌≤◌, length, true, [], ◌≡◌};
-ghost use Rattle.fields.specs.Value.{as_number};
 ghost use Rattle.kinds.specs.Shape.{products_fit, size_within};
 ghost use Rattle.reading.specs.Ceilings.{under};
 ghost use Rattle.reading.specs.Reading.{accepted, is_accepted, run};
-ghost use Rattle.tensors.specs.Answers.{as_shape, as_kind_and_offset, as_tensor};
+ghost use Rattle.reading.specs.Replies.{as_answer};
 ghost use Rattle.tensors.specs.Format.{lengths};
 ghost use Rattle.tensors.specs.Rows.{tensor_row};
 ghost use Rattle.tensors.specs.Steps.{length_in, in_order_of, after_name, shape_in, tensor_of};
@@ -17,11 +16,10 @@ ghost use Rattle.values.specs.Format.{text};
 ghost use Rattle.tensors.specs.Format as format;
 ghost use Rattle.tensors.specs.Rows as rows;
 
-use fields::{GREATEST, Number, Width};
-use kinds::Bounded;
-use reading::Limits;
+use fields::Width;
+use reading::{Limits, Read, Reason, Refusal};
 use rows::TensorRow;
-use values::{Dialect, Span, TextRead};
+use values::{Dialect, Span};
 
 // The stated count of dimensions, and four lengths, of which those beyond the count are 1.
 #[derive(Clone, Copy)]
@@ -33,23 +31,11 @@ pub struct Shape {
     pub fourth: u64,
 }
 
-#[derive(Clone, Copy)]
-pub enum ShapeRead {
-    Found { shape: Shape, next: usize },
-    Refused { why: u64, place: usize },
-}
-
 // A tensor's kind, and the offset of its data from the data's start.
 #[derive(Clone, Copy)]
 pub struct KindAndOffset {
     pub kind: u64,
     pub offset: u64,
-}
-
-#[derive(Clone, Copy)]
-pub enum KindAndOffsetRead {
-    Found { stored: KindAndOffset, next: usize },
-    Refused { why: u64, place: usize },
 }
 
 // A tensor. Its parameters are the product of its lengths.
@@ -63,12 +49,6 @@ pub struct Tensor {
     pub size: u64,
 }
 
-#[derive(Clone, Copy)]
-pub enum TensorRead {
-    Found { tensor: Tensor, next: usize },
-    Refused { why: u64, place: usize },
-}
-
 // What stands after a tensor's name, and the place after it.
 #[derive(Clone, Copy)]
 pub struct AfterName {
@@ -79,90 +59,84 @@ pub struct AfterName {
 }
 
 // The length at the place i of a shape of n dimensions.
-fn read_length(s: &[u8], at: usize, dialect: Dialect, n: u64, i: u64) -> Number
-    ensures { as_number result ≡ run (format.length_at dialect n i) s.now at }
+#[tactic(auto, unfolding(crate::specs::Format::length_at, reading::specs::Reading::run))]
+fn read_length(s: &[u8], at: usize, dialect: Dialect, n: u64, i: u64) -> Read<u64>
+    ensures { as_answer result ≡ run (format.length_at dialect n i) s.now at }
 {
     if i < n {
         fields::number_at(s, at, Width::Eight, dialect.big)
     } else {
-        Number::Value { value: 1, next: at }
+        Ok((1, at))
     }
 }
 
 // The four lengths of a shape of n dimensions.
-pub fn read_lengths(s: &[u8], at: usize, dialect: Dialect, n: u64) -> ShapeRead
-    ensures { as_shape result ≡ run (format.lengths_of dialect n) s.now at }
+#[tactic(auto, using(reading::proofs::RunLaws::run_bind), unfolding(crate::specs::Format::lengths_of, reading::specs::Reading::run, reading::specs::Reading::and_then))]
+pub fn read_lengths(s: &[u8], at: usize, dialect: Dialect, n: u64) -> Read<Shape>
+    ensures { as_answer result ≡ run (format.lengths_of dialect n) s.now at }
 {
-    match read_length(s, at, dialect, n, 0) {
-        Number::Refused { why, place } => ShapeRead::Refused { why, place },
-        Number::Value { value: a, next: q } => match read_length(s, q, dialect, n, 1) {
-            Number::Refused { why, place } => ShapeRead::Refused { why, place },
-            Number::Value { value: b, next: u } => match read_length(s, u, dialect, n, 2) {
-                Number::Refused { why, place } => ShapeRead::Refused { why, place },
-                Number::Value { value: c, next: v } => match read_length(s, v, dialect, n, 3) {
-                    Number::Refused { why, place } => ShapeRead::Refused { why, place },
-                    Number::Value { value: d, next } => ShapeRead::Found {
-                        shape: Shape {
-                            dimensions: n,
-                            first: a,
-                            second: b,
-                            third: c,
-                            fourth: d,
-                        },
-                        next,
-                    },
-                },
-            },
+    let (first, at) = read_length(s, at, dialect, n, 0)?;
+    let (second, at) = read_length(s, at, dialect, n, 1)?;
+    let (third, at) = read_length(s, at, dialect, n, 2)?;
+    let (fourth, next) = read_length(s, at, dialect, n, 3)?;
+    Ok((
+        Shape {
+            dimensions: n,
+            first,
+            second,
+            third,
+            fourth,
         },
-    }
+        next,
+    ))
 }
 
 // The count of dimensions, and four lengths.
-fn read_shape(s: &[u8], at: usize, dialect: Dialect) -> ShapeRead
-    ensures { as_shape result ≡ run (format.shape dialect) s.now at }
+#[tactic(auto, using(reading::proofs::RunLaws::run_bind), unfolding(crate::specs::Format::shape, reading::specs::Reading::here, reading::specs::Reading::run, reading::specs::Reading::and_then))]
+#[inline(always)]
+fn read_shape(s: &[u8], at: usize, dialect: Dialect) -> Read<Shape>
+    ensures { as_answer result ≡ run (format.shape dialect) s.now at }
 {
-    let Number::Value { value: n, next: p } = fields::number_at(s, at, Width::Four, dialect.big)
-    else {
-        return ShapeRead::Refused { why: 1, place: at };
-    };
+    let (n, lengths_at) = fields::number_at(s, at, Width::Four, dialect.big)?;
     if 4 < n {
-        return ShapeRead::Refused { why: 10, place: at };
+        return Err(Refusal {
+            why: Reason::TooManyDimensions,
+            place: at,
+        });
     }
-    read_lengths(s, p, dialect, n)
+    read_lengths(s, lengths_at, dialect, n)
 }
 
 // The kind and the offset; the kind is judged once both are read.
-fn read_kind_and_offset(s: &[u8], at: usize, dialect: Dialect, limits: Limits) -> KindAndOffsetRead
-    ensures { as_kind_and_offset result ≡ run (under limits (format.kind_and_offset dialect)) s.now at }
+#[tactic(auto, using(crate::proofs::Steps::steps), unfolding(crate::specs::Format::kind_and_offset, reading::specs::Reading::here, reading::specs::Reading::run, reading::specs::Reading::and_then, reading::specs::Ceilings::under))]
+fn read_kind_and_offset(
+    s: &[u8],
+    at: usize,
+    dialect: Dialect,
+    limits: Limits,
+) -> Read<KindAndOffset>
+    ensures { as_answer result ≡ run (under limits (format.kind_and_offset dialect)) s.now at }
 {
-    let Number::Value {
-        value: kind,
-        next: p,
-    } = fields::number_at(s, at, Width::Four, dialect.big)
-    else {
-        return KindAndOffsetRead::Refused { why: 1, place: at };
-    };
-    let Number::Value {
-        value: offset,
-        next,
-    } = fields::number_at(s, p, Width::Eight, dialect.big)
-    else {
-        return KindAndOffsetRead::Refused { why: 1, place: p };
-    };
-    if kinds::is_known(kind) {
-        if limits.kinds < kind {
-            return KindAndOffsetRead::Refused { why: 12, place: at };
-        }
-        return KindAndOffsetRead::Found {
-            stored: KindAndOffset { kind, offset },
-            next,
-        };
+    let (kind, offset_at) = fields::number_at(s, at, Width::Four, dialect.big)?;
+    let (offset, next) = fields::number_at(s, offset_at, Width::Eight, dialect.big)?;
+    if !kinds::is_known(kind) {
+        return Err(Refusal {
+            why: Reason::UnknownKind,
+            place: at,
+        });
     }
-    KindAndOffsetRead::Refused { why: 11, place: at }
+    if limits.kinds < kind {
+        return Err(Refusal {
+            why: Reason::KindAboveCeiling,
+            place: at,
+        });
+    }
+    Ok((KindAndOffset { kind, offset }, next))
 }
 
 // The tensor of what was read, where its first length is whole blocks, and its products, its size
 // and the new total fit.
+#[inline(always)]
 fn fitting_tensor(
     at: usize,
     total: u64,
@@ -170,57 +144,50 @@ fn fitting_tensor(
     shape: Shape,
     stored: KindAndOffset,
     next: usize,
-) -> TensorRead
-    ensures { as_tensor result ≡ run (format.fitting at total name shape stored) [] next }
+) -> Read<Tensor>
+    ensures { as_answer result ≡ run (format.fitting at total name shape stored) [] next }
 {
     let kind = stored.kind;
+    let refusal = |why| Refusal { why, place: at };
     if !kinds::whole_blocks(shape.first, kind) {
-        return TensorRead::Refused { why: 17, place: at };
+        return Err(refusal(Reason::PartialBlock));
     }
-    let four = [shape.first, shape.second, shape.third, shape.fourth];
-    let Bounded::Fits { value: product } = kinds::product(four) else {
-        return TensorRead::Refused { why: 13, place: at };
+    let lengths = [shape.first, shape.second, shape.third, shape.fourth];
+    let parameters = kinds::product(lengths).ok_or(refusal(Reason::ProductOverflow))?;
+    if !kinds::fits(parameters, kind) {
+        return Err(refusal(Reason::SizeOverflow));
+    }
+    if total.checked_add(parameters).is_none() {
+        return Err(refusal(Reason::TotalOverflow));
+    }
+    let tensor = Tensor {
+        name,
+        shape,
+        kind,
+        offset: stored.offset,
+        parameters,
+        size: kinds::known_size(parameters, kind),
     };
-    if !kinds::fits(product, kind) {
-        return TensorRead::Refused { why: 14, place: at };
-    }
-    if GREATEST - total < product {
-        return TensorRead::Refused { why: 15, place: at };
-    }
-    TensorRead::Found {
-        tensor: Tensor {
-            name,
-            shape,
-            kind,
-            offset: stored.offset,
-            parameters: product,
-            size: kinds::known_size(product, kind),
-        },
-        next,
-    }
+    Ok((tensor, next))
 }
 
 // A tensor, where the products of those before it come to total.
-pub fn read_tensor(s: &[u8], at: usize, dialect: Dialect, total: u64, limits: Limits) -> TensorRead
-    ensures { as_tensor result ≡ run (under limits (format.tensor dialect total)) s.now at }
+// Inlined with its parts, because a tensor costs a third more through a call.
+#[tactic(auto, using(crate::proofs::Steps::steps), unfolding(crate::specs::Format::tensor, reading::specs::Reading::here, reading::specs::Reading::run, reading::specs::Reading::and_then, reading::specs::Ceilings::under))]
+#[inline(always)]
+pub fn read_tensor(
+    s: &[u8],
+    at: usize,
+    dialect: Dialect,
+    total: u64,
+    limits: Limits,
+) -> Read<Tensor>
+    ensures { as_answer result ≡ run (under limits (format.tensor dialect total)) s.now at }
 {
-    match values::read_string(s, at, dialect) {
-        TextRead::Refused { why, place } => TensorRead::Refused { why, place },
-        TextRead::Found {
-            span: name,
-            next: p,
-        } => match read_shape(s, p, dialect) {
-            ShapeRead::Refused { why, place } => TensorRead::Refused { why, place },
-            ShapeRead::Found { shape, next: q } => match read_kind_and_offset(
-                s, q, dialect, limits,
-            ) {
-                KindAndOffsetRead::Refused { why, place } => TensorRead::Refused { why, place },
-                KindAndOffsetRead::Found { stored, next } => fitting_tensor(
-                    at, total, name, shape, stored, next,
-                ),
-            },
-        },
-    }
+    let (name, shape_at) = values::read_string(s, at, dialect)?;
+    let (shape, kind_at) = read_shape(s, shape_at, dialect)?;
+    let (stored, next) = read_kind_and_offset(s, kind_at, dialect, limits)?;
+    fitting_tensor(at, total, name, shape, stored, next)
 }
 
 // A tensor's row.

@@ -4,38 +4,19 @@
 ghost use Rattle.std.specs.Prelude.{◌≡◌};
 ghost use Rattle.text_in.specs.Decimal.{number_of};
 
-use fields::GREATEST;
-
-// A number; or that a text says none.
-#[derive(Clone, Copy)]
-pub enum TextNumber {
-    Number { value: u64 },
-    Unclear,
-}
-
 // The number that a text says in decimal: digits and nothing else, at most 2^64 - 1.
-pub fn number_in(text: &[u8]) -> TextNumber
+pub fn number_in(text: &[u8]) -> Option<u64>
     ensures { result ≡ number_of text.now }
 {
-    if text.len() == 0 {
-        return TextNumber::Unclear;
+    if text.is_empty() {
+        return None;
     }
     let mut n: u64 = 0;
-    let mut i: usize = 0;
-    while i < text.len() {
-        let b = text[i];
-        if b < 48 {
-            return TextNumber::Unclear;
+    for &b in text {
+        if !b.is_ascii_digit() {
+            return None;
         }
-        if 57 < b {
-            return TextNumber::Unclear;
-        }
-        let digit = (b - 48) as u64;
-        if (GREATEST - digit) / 10 < n {
-            return TextNumber::Unclear;
-        }
-        n = 10 * n + digit;
-        i += 1;
+        n = n.checked_mul(10)?.checked_add((b - b'0') as u64)?;
     }
-    TextNumber::Number { value: n }
+    Some(n)
 }

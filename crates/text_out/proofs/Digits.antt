@@ -21,6 +21,18 @@ digits-turn zero rest places h more long = absurd (omega arith)
 digits-turn (suc a) rest places h more long =
     rw (le-ltb rest 10 (omega arith), sub-one (suc a), drop-set places (suc a) (48 + rest % 10) long) (append_assoc (digits (suc a) (rest / 10)) _ _)
 
+-- a digit is stored, and the number has more
+pub digits_more : (at rest : ℕ) (places : List ℕ) → 9 < rest → at < length places
+    → digits (suc at) rest ++ drop (suc at) places ≡ digits at (rest / 10) ++ drop at (set places at (48 + rest % 10))
+unfolding digits
+digits_more at rest places more long =
+    rw (le-ltb rest 10 (omega arith), drop-set places at (48 + rest % 10) long) (append_assoc (digits at (rest / 10)) _ _)
+
+-- no digits fit into no places
+pub no_digits : (n rest : ℕ) (places : List ℕ) → n ≡ 0 → digits n rest ++ drop n places ≡ places
+unfolding digits
+no_digits n rest places e = rw e refl
+
 -- a number below 10 is one digit, and so is what one place holds
 pub one_digit : (at rest : ℕ) → rest ≤ 9 → digits (suc at) rest ≡ (48 + rest % 10) ∷ []
 unfolding digits

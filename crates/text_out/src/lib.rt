@@ -5,23 +5,16 @@
 // the room has put all of its text.
 #![tactic(auto)]
 
-ghost use Rattle.std.specs.Prelude.{◌≡◌, ◌≤◌, min, length, drop};
+ghost use Rattle.std.specs.Prelude.{◌≡◌, ◌≤◌, length, drop};
 ghost use Rattle.text_out.specs.Put.{Put};
 ghost use Rattle.text_out.specs.Words as words;
-
-// The lesser of two.
-fn least(a: usize, b: usize) -> usize
-    ensures { result ≡ min a b }
-{
-    if a < b { a } else { b }
-}
 
 // A text.
 pub fn put_text(out: &mut [u8], src: &[u8]) -> usize
     ensures { Put src.now out.old out.new result }
 {
-    let n = least(out.len(), src.len());
-    fields::copy_bytes(out, &src[0..n])
+    let n = src.len().min(out.len());
+    fields::copy_bytes(out, &src[..n])
 }
 
 // The digits of a number, at the end of the twenty places. Answers where they begin.
@@ -30,15 +23,16 @@ fn spell(places: &mut [u8], n: u64) -> usize
     ensures upper_bound { result ≤ 20 }
     ensures places_after { drop result places.new ≡ words.decimal n }
 {
-    let mut at: usize = 19;
     let mut rest = n;
-    while 0 < at && 9 < rest {
-        places[at] = 48 + (rest % 10) as u8;
-        rest = rest / 10;
-        at -= 1;
+    for at in (0..20).rev() {
+        places[at] = b'0' + (rest % 10) as u8;
+        if rest < 10 {
+            return at;
+        }
+        rest /= 10;
     }
-    places[at] = 48 + (rest % 10) as u8;
-    at
+    // Not reached: a number of 64 bits has no more digits.
+    0
 }
 
 // A number in decimal.

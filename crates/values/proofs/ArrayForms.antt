@@ -9,6 +9,7 @@ use Rattle.reading.specs.Reading.{accepted, refused, run, here, and_then, passed
 use Rattle.reading.proofs.RunLaws.{run_bind}
 use Rattle.reading.proofs.Repetition.{seen-accepted, seen-refused}
 use Rattle.values.specs.Format.{size, type, value_of, array}
+use Rattle.values.proofs.ValueForms.{type-known}
 use Rattle.values.specs.declared.Dialect.{Dialect}
 
 module _ (k : Dialect) (o : ℕ) (s : List ℕ) (at depth : ℕ) where
@@ -48,3 +49,6 @@ module _ (k : Dialect) (o : ℕ) (s : List ℕ) (at depth : ℕ) where
         array-passed h =
             let items = seen-accepted (λ v. tt {0}) (times n (value_of (array (depth - 1) k) k at t)) s q h in
             sym (one_less ∙ rw (run_bind, run_bind, ← typed, run_bind, ← counted, run_bind, run_bind, ← items.1) refl)
+
+-- the steps of an array
+pub ruleset array_steps = (array-none, array_untyped, array_uncounted, array-stopped, array-passed, type-known)

@@ -3,7 +3,10 @@ pub mod ValuesBack
 pub mod ValuesFit
 pub mod Examples
 pub mod Texts
+pub mod Words
 pub mod ValueForms
 pub mod ArrayForms
 pub mod ValuesEnd
 pub mod ValueRefusals
+pub mod ScalarsPassed
+pub mod Turns

@@ -11,13 +11,13 @@ use native.Mathlib.Numerals.{add-one}
 use lib.ListN.{drop_of_length-le, length, take, drop, get_or, length-drop, length-take}
 use lib.Seq.{drop-cons, length-take-le, take_all}
 use lib.Dec.{leb, eqb}
-use borrow.Author.Tests.{leb-true, leb-false, eq-eqb, ne_eqb, le-leb}
+use borrow.Author.Tests.{leb-true, leb-false, eq-eqb, ne_eqb, le-leb, tests}
 use Rattle.reading.specs.Back.{same, Sure}
 use Rattle.reading.specs.Reading.{Reading, done, field, Answer, accepted, refused, run, ◌>>=◌, ◌>>◌, here, check, and_then}
 use Rattle.reading.proofs.RunLaws.{run_bind}
 use Rattle.reading.proofs.SureLaws.{sure_then, sure_here, sure_check, sure_field, whatever}
 use Rattle.fields.proofs.NumberFields.{number-within}
-use Rattle.values.specs.Format.{size_width, size, text_looking, text, begins, is_word, alignment_key}
+use Rattle.values.specs.Format.{size_width, size, text_looking, text, begins, is_word, alignment_key, tokenizer_key}
 use Rattle.values.specs.declared.Dialect.{Dialect}
 use Rattle.values.specs.declared.Span.{Span}
 
@@ -140,3 +140,12 @@ module _ (w : List ℕ) (n : ℕ) (s : List ℕ) (a : Span) where
 -- of a key that is inside, the first 18 bytes tell whether it is the alignment's
 pub alignment-looked : (s : List ℕ) (a : Span) → a.place + a.len ≤ length s → is_word alignment_key (inside_of s a) ≡ is_word alignment_key (take 18 (take a.len (drop a.place s)))
 alignment-looked s a there = rw (le-leb _ _ there, word-told alignment_key (take a.len (drop a.place s)) 18 (omega arith))
+
+-- and whether it starts with the tokenizer's
+pub tokenizer-looked : (s : List ℕ) (a : Span) → a.place + a.len ≤ length s → begins tokenizer_key (inside_of s a) ≡ begins tokenizer_key (take 18 (take a.len (drop a.place s)))
+tokenizer-looked s a there = rw (le-leb _ _ there) (sym (begins-take tokenizer_key (take a.len (drop a.place s)) 18 (omega arith)))
+
+-- the steps of a text, and those of a key
+pub ruleset text_steps = (run_bind, size-within, tests)
+
+pub ruleset key_steps = (text-looked, text-inside, alignment-looked)

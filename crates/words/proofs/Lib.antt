@@ -1,1 +1,2 @@
 pub mod ByteOrders
+pub mod Headers

@@ -1,17 +1,16 @@
 // The answers of the exported functions as numbers: one that is returned, and eight words.
 #![tactic(auto)]
 
-ghost use Rattle.std.specs.Prelude.{◌≡◌};
-ghost use Rattle.header.specs.Answers.{as_header};
+ghost use Rattle.std.specs.Prelude.{◌≡◌, ℕ, List};
+ghost use Rattle.reading.specs.Replies.{as_reply};
 ghost use Rattle.words.specs.Words as words;
 
-use fetches::Replay;
-use header::{Header, HeaderRead};
-use lookup::{FileTypeRead, Lookup, TensorLookup};
-use ranges::RangeCheck;
+use header::Header;
+use lookup::TensorSearch;
+use reading::Refusal;
 use rows::TensorRow;
-use values::Value;
-use writer::HeaderWritten;
+use values::{Entry, Value};
+use writer::Written;
 
 // Beside refusals' numbers and those of a string question: the file's type is none of the table.
 pub const STATUS_UNKNOWN: u64 = 102;
@@ -23,205 +22,184 @@ pub fn one_word(word: u64) -> [u64; 8]
     [word, 0, 0, 0, 0, 0, 0, 0]
 }
 
-// The number of an answer.
-pub fn number_of(read: HeaderRead) -> u64
-    ensures { result ≡ words.number_of (as_header read) }
+// What a caller is told of a value: the number that is returned, and eight words.
+pub trait Told: Copy {
+    ghost number: { Self → ℕ };
+
+    ghost eight: { Self → List ℕ };
+
+    fn status(self) -> u64
+        ensures { result ≡ number self };
+
+    fn words(self) -> [u64; 8]
+        ensures { result ≡ eight self };
+}
+
+// The number of an answer: that of its value, or its refusal's.
+pub fn number_of<T: Told>(answer: Result<T, Refusal>) -> u64
+    ensures { result ≡ words.told_number T.number (as_reply answer) }
 {
-    match read {
-        HeaderRead::Found { header: _ } => 0,
-        HeaderRead::Refused { why, place: _ } => why,
+    match answer {
+        Ok(value) => value.status(),
+        Err(refusal) => refusal.why.number(),
     }
+}
+
+// The words of an answer: those of its value, or its refusal's place.
+pub fn words_of<T: Told>(answer: Result<T, Refusal>) -> [u64; 8]
+    ensures { result ≡ words.told_words T.eight (as_reply answer) }
+{
+    match answer {
+        Ok(value) => value.words(),
+        Err(refusal) => one_word(refusal.place as u64),
+    }
+}
+
+// Tells a caller an answer: its words in those that are lent, and its number.
+pub fn tell<T: Told>(answer: Result<T, Refusal>, lent: &mut [u64; 8]) -> u64
+    ensures value { result ≡ words.told_number T.number (as_reply answer) }
+    ensures words_after { lent.new ≡ words.told_words T.eight (as_reply answer) }
+{
+    *lent = words_of(answer);
+    number_of(answer)
 }
 
 // The number of a header's byte order: 2 where its magic is turned round too.
 fn byte_order(header: Header) -> u64
     ensures { result ≡ words.byte_order header }
 {
-    if header.big {
-        if header.turned { 2 } else { 1 }
-    } else {
+    match (header.big, header.turned) {
+        (false, _) => 0,
+        (true, false) => 1,
+        (true, true) => 2,
+    }
+}
+
+impl Told for Header {
+    ghost number = { words.fine };
+
+    ghost eight = { words.header_words };
+
+    fn status(self) -> u64 {
         0
     }
-}
 
-// The words of an answer.
-pub fn words_of(read: HeaderRead) -> [u64; 8]
-    ensures { result ≡ words.words_of (as_header read) }
-{
-    match read {
-        HeaderRead::Refused { why: _, place } => one_word(place as u64),
-        HeaderRead::Found { header } => [
-            header.version,
-            byte_order(header),
-            header.entries,
-            header.tensors,
-            header.alignment,
-            header.end as u64,
-            header.start,
+    fn words(self) -> [u64; 8] {
+        [
+            self.version,
+            byte_order(self),
+            self.entries,
+            self.tensors,
+            self.alignment,
+            self.end as u64,
+            self.start,
             0,
-        ],
+        ]
     }
 }
 
-// The number of a range check.
-pub fn range_number(check: RangeCheck) -> u64
-    ensures { result ≡ words.range_number check }
-{
-    match check {
-        RangeCheck::Inside => 0,
-        RangeCheck::Refused { why, tensor: _ } => why,
+// A check that passed, or a replay whose answers are in a table.
+impl Told for () {
+    ghost number = { words.fine };
+
+    ghost eight = { words.no_words };
+
+    fn status(self) -> u64 {
+        0
+    }
+
+    fn words(self) -> [u64; 8] {
+        one_word(0)
     }
 }
 
-// The words of a range check.
-pub fn range_words(check: RangeCheck) -> [u64; 8]
-    ensures { result ≡ words.range_words check }
-{
-    match check {
-        RangeCheck::Inside => one_word(0),
-        RangeCheck::Refused { why: _, tensor } => one_word(tensor as u64),
+// A header that was written.
+impl Told for Written {
+    ghost number = { words.fine };
+
+    ghost eight = { words.placed_words };
+
+    fn status(self) -> u64 {
+        0
+    }
+
+    fn words(self) -> [u64; 8] {
+        [self.end as u64, self.start as u64, 0, 0, 0, 0, 0, 0]
     }
 }
 
-// The number of a lookup.
-pub fn entry_number(found: Lookup) -> u64
-    ensures { result ≡ words.entry_number found }
-{
-    match found {
-        Lookup::Found { entry: _ } => 0,
-        Lookup::Absent => lookup::STATUS_ABSENT,
-        Lookup::Refused { why, place: _ } => why,
-    }
-}
+// An entry that was looked up.
+impl Told for Option<Entry> {
+    ghost number = { words.there_or 100 };
 
-// The words of a lookup.
-pub fn entry_words(found: Lookup) -> [u64; 8]
-    ensures { result ≡ words.entry_words found }
-{
-    match found {
-        Lookup::Absent => one_word(0),
-        Lookup::Refused { why: _, place } => one_word(place as u64),
-        Lookup::Found { entry } => {
-            let row = values::entry_row(entry);
-            [row[0], row[1], row[2], row[3], row[4], row[5], row[6], 0]
+    ghost eight = { words.found_words };
+
+    fn status(self) -> u64 {
+        self.map_or(lookup::STATUS_ABSENT, |_| 0)
+    }
+
+    fn words(self) -> [u64; 8] {
+        match self {
+            Some(entry) => {
+                let row = values::entry_row(entry);
+                [row[0], row[1], row[2], row[3], row[4], row[5], row[6], 0]
+            }
+            None => one_word(0),
         }
+    }
+}
+
+// A file's type.
+impl Told for Option<u64> {
+    ghost number = { words.there_or 102 };
+
+    ghost eight = { words.known_words };
+
+    fn status(self) -> u64 {
+        self.map_or(STATUS_UNKNOWN, |_| 0)
+    }
+
+    fn words(self) -> [u64; 8] {
+        one_word(self.unwrap_or(0))
+    }
+}
+
+// A search for a tensor.
+impl Told for TensorSearch {
+    ghost number = { words.search_number };
+
+    ghost eight = { words.search_words };
+
+    fn status(self) -> u64 {
+        self.tensor.map_or(lookup::STATUS_ABSENT, |_| 0)
+    }
+
+    fn words(self) -> [u64; 8] {
+        one_word(self.passed)
     }
 }
 
 // The words of a string question.
-pub fn string_words(found: Lookup) -> [u64; 8]
-    ensures { result ≡ words.string_words found }
+pub fn string_words(found: Result<Option<Entry>, Refusal>) -> [u64; 8]
+    ensures { result ≡ words.string_words (as_reply found) }
 {
     match found {
-        Lookup::Absent => one_word(0),
-        Lookup::Refused { why: _, place } => one_word(place as u64),
-        Lookup::Found { entry } => {
-            let v = entry.value;
-            match v {
-                Value::Single(_) => one_word(0),
-                Value::Array(_) => one_word(0),
-                Value::Text(a) => [a.place as u64, a.len as u64, 0, 0, 0, 0, 0, 0],
-            }
-        }
-    }
-}
-
-// The number of a question for a tensor.
-pub fn tensor_number(found: TensorLookup) -> u64
-    ensures { result ≡ words.tensor_number found }
-{
-    match found {
-        TensorLookup::Found {
-            tensor: _,
-            passed: _,
-        } => 0,
-        TensorLookup::Absent { passed: _ } => lookup::STATUS_ABSENT,
-        TensorLookup::Refused { why, place: _ } => why,
-    }
-}
-
-// The words of a question for a tensor.
-pub fn tensor_words(found: TensorLookup) -> [u64; 8]
-    ensures { result ≡ words.tensor_words found }
-{
-    match found {
-        TensorLookup::Found { tensor: _, passed } => one_word(passed),
-        TensorLookup::Absent { passed } => one_word(passed),
-        TensorLookup::Refused { why: _, place } => one_word(place as u64),
+        Ok(Some(entry)) => match entry.value {
+            Value::Text(text) => [text.place as u64, text.len as u64, 0, 0, 0, 0, 0, 0],
+            Value::Single(_) | Value::Array(_) => one_word(0),
+        },
+        Ok(None) => one_word(0),
+        Err(Refusal { place, .. }) => one_word(place as u64),
     }
 }
 
 // The row of a tensor that was found; otherwise the row stays as it was.
-pub fn put_tensor(found: TensorLookup, row: &mut TensorRow)
-    ensures { row.new ≡ words.row_after row.old found }
+pub fn put_tensor(found: Result<TensorSearch, Refusal>, row: &mut TensorRow)
+    ensures { row.new ≡ words.row_after row.old (as_reply found) }
 {
-    match found {
-        TensorLookup::Found { tensor, passed: _ } => {
+    if let Ok(search) = found {
+        if let Some(tensor) = search.tensor {
             *row = tensors::tensor_row(tensor);
         }
-        TensorLookup::Absent { passed: _ } => {}
-        TensorLookup::Refused { why: _, place: _ } => {}
-    }
-}
-
-// The number of a file type's answer.
-pub fn type_number(read: FileTypeRead) -> u64
-    ensures { result ≡ words.type_number read }
-{
-    match read {
-        FileTypeRead::Known { number: _ } => 0,
-        FileTypeRead::Unknown => STATUS_UNKNOWN,
-        FileTypeRead::Refused { why, place: _ } => why,
-    }
-}
-
-// The words of a file type's answer.
-pub fn type_words(read: FileTypeRead) -> [u64; 8]
-    ensures { result ≡ words.type_words read }
-{
-    match read {
-        FileTypeRead::Known { number } => one_word(number),
-        FileTypeRead::Unknown => one_word(0),
-        FileTypeRead::Refused { why: _, place } => one_word(place as u64),
-    }
-}
-
-// The number of a writer's answer.
-pub fn written_number(written: HeaderWritten) -> u64
-    ensures { result ≡ words.written_number written }
-{
-    match written {
-        HeaderWritten::Written { end: _, start: _ } => 0,
-        HeaderWritten::Refused { why, place: _ } => why,
-    }
-}
-
-// The words of a writer's answer.
-pub fn written_words(written: HeaderWritten) -> [u64; 8]
-    ensures { result ≡ words.written_words written }
-{
-    match written {
-        HeaderWritten::Refused { why: _, place } => one_word(place as u64),
-        HeaderWritten::Written { end, start } => [end as u64, start as u64, 0, 0, 0, 0, 0, 0],
-    }
-}
-
-// The number of a replay's answer.
-pub fn replay_number(replay: Replay) -> u64
-    ensures { result ≡ words.replay_number replay }
-{
-    match replay {
-        Replay::Answered => 0,
-        Replay::Refused { why, place: _ } => why,
-    }
-}
-
-// The words of a replay's answer.
-pub fn replay_words(replay: Replay) -> [u64; 8]
-    ensures { result ≡ words.replay_words replay }
-{
-    match replay {
-        Replay::Answered => one_word(0),
-        Replay::Refused { why: _, place } => one_word(place as u64),
     }
 }

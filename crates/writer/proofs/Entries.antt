@@ -1,6 +1,6 @@
 -- Entries of a sheet as they are written: each one's own bytes, and the place of the alignment's
 -- own among them. Assumes nothing.
-use Rattle.std.specs.Prelude.{if◌then◌else◌}
+use Rattle.std.specs.Prelude.{if◌then◌else◌, Some}
 use Prim.Native.Nat.{ℕ, suc, ◌+◌, ◌-◌, ◌≤◌, ◌<◌}
 use mathlib.Core.Path.{◌≡◌, refl, sym, ap, subst, ◌∙◌}
 use mathlib.Core.Bool.{Bool, true, false}
@@ -21,8 +21,6 @@ use Rattle.plan.specs.Header.{inserted, entry_in, alignment_entry}
 use Rattle.sheet.specs.Format.{SheetEntry, value, metadata}
 use Rattle.sheet.specs.Sheet.{entry_of}
 use Rattle.sheet.specs.declared.EntryParts.{EntryParts}
-use Rattle.sheet.specs.declared.EntryFound.TheVariants.{Found}
-use Rattle.sheet.specs.declared.Stepped.TheVariants.{To}
 use Rattle.sheet.proofs.ManyEntries.{key-stands}
 use Rattle.sheet.proofs.PartsFound.{entry-told}
 use Rattle.sheet.proofs.BackFromAnswers.{entry_yes}
@@ -37,7 +35,7 @@ pub record EntryThere (s : List ℕ) (from : ℕ) (x : EntryParts) (q : ℕ) : T
   pub what : SheetEntry
   pub is : accepted what q ≡ run metadata s from
   pub key : inside_of s x.key ≡ what.content.key
-  pub ends : To q ≡ step_of (run (value q x.form) s x.value)
+  pub ends : Some q ≡ step_of (run (value q x.form) s x.value)
   pub bytes : (k : Dialect) {b : List ℕ} → b ≡ inside_of s x.key → text_bytes k b ++ type_bytes k x.form ++ value_bytes (suc depth) k (content_read (run (value q x.form) s x.value)) ≡ entry_bytes k what.content
 
 module _ (s : List ℕ) (from : ℕ) where
@@ -57,7 +55,7 @@ module _ (s : List ℕ) (from : ℕ) where
     bytes = λ k i. rw i (entry-bytes e q r k);
   }
 
-  pub entry-there : {x : EntryParts} {q : ℕ} → Found x q ≡ entry_of (run metadata s from) → EntryThere s from x q
+  pub entry-there : {x : EntryParts} {q : ℕ} → Some (x, q) ≡ entry_of (run metadata s from) → EntryThere s from x q
   entry-there {x} {q} f = let y = entry_yes (run metadata s from) f in rw y.told (there y.what q y.is)
 
 -- The alignment's place.
@@ -140,7 +138,7 @@ written k r = bytes_of_all (entry_bytes k) (map entry_in (got r))
 -- own stands between them
 pub record Apart (k : Dialect) (a : ℕ) (s : List ℕ) (total n q : ℕ) : Type 0 where
   pub within : n ≤ total
-  pub ends : To q ≡ step_of (run (times n metadata) s 1)
+  pub ends : Some q ≡ step_of (run (times n metadata) s 1)
   pub lower : is_accepted (run (times n metadata) s 1) ≡ true
   pub upper : is_accepted (run (times (total - n) metadata) s q) ≡ true
   pub bytes : written k (run (times n metadata) s 1) ++ entry_bytes k (alignment_entry a) ++ written k (run (times (total - n) metadata) s q)
@@ -177,9 +175,9 @@ module _ (k : Dialect) (a : ℕ) (s : List ℕ) (total : ℕ) (all : is_accepted
       let h = split metadata s (total - n) n 1 (subst (λ x. accepted es g.0 ≡ run (times x metadata) s 1) m g.1) in
       (h.mid, apart_of n g.0 j w h)
 
-  pub apart : (n : ℕ) → n ≡ coming_before (got (run (times total metadata) s 1)) → (q : ℕ) → To q ≡ step_of (run (times n metadata) s 1) → Apart k a s total n q
+  pub apart : (n : ℕ) → n ≡ coming_before (got (run (times total metadata) s 1)) → (q : ℕ) → Some q ≡ step_of (run (times n metadata) s 1) → Apart k a s total n q
   apart n j q e =
       let h = apart-mid n j in
-      let f : To q ≡ To h.0 = e ∙ sym h.1.ends in
+      let f : Some q ≡ Some h.0 = e ∙ sym h.1.ends in
       let i : q ≡ h.0 = cc in
       rw i h.1

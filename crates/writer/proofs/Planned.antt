@@ -1,5 +1,6 @@
 -- What a plan tells: that every test of the sheet held, and what the header is made of. Assumes
 -- nothing.
+use Rattle.reading.specs.Replies.{Reply, gives, refuses}
 use Rattle.std.specs.Prelude.{if◌then◌else◌}
 use Prim.Native.Nat.{ℕ, zero, suc, ◌+◌, ◌-◌, ◌≤◌, ◌<◌, max}
 use mathlib.Core.Path.{◌≡◌, refl, sym, ap, ◌∙◌}
@@ -29,10 +30,6 @@ use Rattle.sheet.specs.Sheet.{Records, sheet_of}
 use Rattle.sheet.proofs.PartsFound.{entry-ends}
 use Rattle.sheet.proofs.WholeSheet.{sheet_entries, sheet_tensors}
 use Rattle.plan.specs.declared.Plan.{Plan}
-use Rattle.plan.specs.declared.Planned.{Planned}
-use Rattle.plan.specs.declared.Planned.TheVariants.{Fine, Refused}
-use Rattle.plan.specs.declared.LaidOut.{LaidOut}
-use Rattle.plan.specs.declared.LaidOut.TheVariants.{Fits, Refused as NotLaid}
 use Rattle.plan.specs.Header.{own_alignment, entries_with, entries_of, piece_of, laid_from, laid_with, header_contents, records_in, end_of, start_of}
 use Rattle.plan.specs.Plan.{require_formed, require_laid, can_add, agrees, laid_of, counts_fit, plan_of, plan_for}
 use Rattle.header.specs.Format.{is_alignment_lem}
@@ -51,22 +48,22 @@ pub record PlannedBy (k : Dialect) (a room : ℕ) (s : List ℕ) (plan : Plan) :
   pub aligned : is_alignment_lem a ≡ true
   pub added : can_add a (own_alignment records.entries) ≡ true
   pub agreed : agrees a (own_alignment records.entries) ≡ true
-  pub fits : Fits ≡ laid_of (layout_of a (map piece_of records.tensors))
+  pub fits : gives tt ≡ laid_of (layout_of a (map piece_of records.tensors))
   pub counted : counts_fit k (length (entries_of a records.entries)) (length records.tensors) ≡ true
   pub within : start_of k a records ≤ room
   pub told : plan ≡ plan_of k a records
 
 -- a test that held, and what follows it
-passed : (t : Bool) (w p : ℕ) (rest : Planned) {plan : Plan} → Fine plan ≡ require t (Refused w p) rest → (t ≡ true) × (Fine plan ≡ rest)
+passed : (t : Bool) (w p : ℕ) (rest : Reply Plan) {plan : Plan} → gives plan ≡ require t (refuses w p) rest → (t ≡ true) × (gives plan ≡ rest)
 passed true w p rest e = (refl, e)
 passed false w p rest e = let z : ◌≡◌ {A = ℕ} 0 1 = cc in absurd (omega arith)
 
-passed-laid : (l : LaidOut) (rest : Planned) {plan : Plan} → Fine plan ≡ require_laid l rest → (Fits ≡ l) × (Fine plan ≡ rest)
-passed-laid Fits rest e = (refl, e)
-passed-laid (NotLaid w i) rest e = let z : ◌≡◌ {A = ℕ} 0 1 = cc in absurd (omega arith)
+passed-laid : (l : Reply (Unit {0})) (rest : Reply Plan) {plan : Plan} → gives plan ≡ require_laid l rest → (gives tt ≡ l) × (gives plan ≡ rest)
+passed-laid (gives tt) rest e = (refl, e)
+passed-laid (refuses w i) rest e = let z : ◌≡◌ {A = ℕ} 0 1 = cc in absurd (omega arith)
 
 module _ (k : Dialect) (a room : ℕ) (s : List ℕ) {plan : Plan} where
-  by : known_dialect k ≡ true → (r : Answer Records) → r ≡ sheet_of s → Fine plan ≡ require_formed r 31 (aligned k a room) → PlannedBy k a room s plan
+  by : known_dialect k ≡ true → (r : Answer Records) → r ≡ sheet_of s → gives plan ≡ require_formed r 31 (aligned k a room) → PlannedBy k a room s plan
   by v (refused n p) h e = let z : ◌≡◌ {A = ℕ} 0 1 = cc in absurd (omega arith)
   by v (accepted c q) h e =
       let one = passed (is_alignment_lem a) 32 0 _ e in
@@ -89,7 +86,7 @@ module _ (k : Dialect) (a room : ℕ) (s : List ℕ) {plan : Plan} where
         told = let f : plan ≡ plan_of k a c = cc in f;
       }
 
-  pub planned-by : Fine plan ≡ plan_for k a room s → PlannedBy k a room s plan
+  pub planned-by : gives plan ≡ plan_for k a room s → PlannedBy k a room s plan
   unfolding plan_for
   planned-by e = let v = passed (known_dialect k) 30 0 _ e in by v.0 (sheet_of s) refl v.1
 
@@ -132,7 +129,7 @@ module _ {k : Dialect} {a room : ℕ} {s : List ℕ} {plan : Plan} (p : PlannedB
   pub tensors-all : is_accepted (run (times plan.draft.tensors tensor) s plan.draft.first) ≡ true
   tensors-all = ap is_accepted (sym tensors-read)
 
-  pub tensors_fit : Fits ≡ laid_of (layout_of a (map piece_of (got (run (times plan.draft.tensors tensor) s plan.draft.first))))
+  pub tensors_fit : gives tt ≡ laid_of (layout_of a (map piece_of (got (run (times plan.draft.tensors tensor) s plan.draft.first))))
   tensors_fit = rw (← tensors-read) p.fits
 
   -- the parts of the header
@@ -179,7 +176,7 @@ module _ {k : Dialect} {a room : ℕ} {s : List ℕ} {plan : Plan} (p : PlannedB
       omega arith
 
   -- the header, and zeros up to the start of its data
-  pub left-written : {o out : List ℕ} {n : ℕ} → Wrote (header_for k a s ++ replicate (plan.start - plan.end) 0) o out n → out ≡ left_by (Fine plan) (header_for k a s) o
+  pub left-written : {o out : List ℕ} {n : ℕ} → Wrote (header_for k a s ++ replicate (plan.start - plan.end) 0) o out n → out ≡ left_by (gives plan) (header_for k a s) o
   left-written {o} w =
       let e = header-end in
       let f = header-room in

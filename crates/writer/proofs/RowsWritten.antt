@@ -1,5 +1,6 @@
 -- Records that a sheet has in a row, read and written one after the other: what is written, and
 -- what is left of the sheet. Assumes nothing.
+use Rattle.std.specs.Prelude.{Some}
 use Prim.Native.Nat.{ℕ, zero, suc, ◌+◌, ◌-◌, ◌≤◌, ◌<◌}
 use mathlib.Core.Path.{◌≡◌, refl, sym, ap, subst, ◌∙◌}
 use mathlib.Core.Bool.{true}
@@ -14,7 +15,6 @@ use Rattle.reading.specs.Each.{each, times}
 use Rattle.reading.specs.Reading.{Reading, done, Answer, accepted, refused, run, is_accepted}
 use Rattle.reading.proofs.RunLaws.{goes_on, bind_inv}
 use Rattle.reading.proofs.Repetition.{times-accepted, times-got, times-ends, times-never}
-use Rattle.sheet.specs.declared.Stepped.TheVariants.{To}
 use Rattle.sheet.proofs.BackFromAnswers.{steps_on}
 use Rattle.writer.proofs.Loops.{Part, part-start, part-turn, part_end, part_room}
 use Rattle.sheet.specs.Steps.{step_of}
@@ -80,7 +80,7 @@ module _ {A : Type 0} (m : Reading A) (enc : A → List ℕ) (s : List ℕ) (at 
       part = part-turn l (bytes_of_all enc (got (run (times (n - (i + 1)) m) s q))) ys w h.part (rw same (turned below e)) wrote long;
     }
 
-    pub left_end : n ≤ i → Wrote (bytes_of_all enc (got (run (times n m) s at))) o out done × (To from ≡ step_of (run (times n m) s at))
+    pub left_end : n ≤ i → Wrote (bytes_of_all enc (got (run (times n m) s at))) o out done × (Some from ≡ step_of (run (times n m) s at))
     unfolding bytes_of_all
     left_end over =
         let e = times-ends m s from n i over in

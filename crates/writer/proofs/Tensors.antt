@@ -1,5 +1,6 @@
 -- Tensors written one after the other, each at the offset where the one before it left off. Assumes
 -- nothing.
+use Rattle.std.specs.Prelude.{Ok, Err}
 use Prim.Native.Nat.{ℕ, suc, ◌+◌, ◌-◌, ◌≤◌, ◌<◌}
 use mathlib.Core.Path.{◌≡◌, sym, ap, ◌∙◌}
 use mathlib.Core.Bool.{true}
@@ -9,13 +10,13 @@ use native.Mathlib.Numerals.{add-one}
 use borrow.Author.Tests.{le-leb}
 use lib.ListN.{length, length-append}
 use borrow.Rule.Slice.PartMut.{mid_of, put_mid}
+use Rattle.reading.specs.Replies.{gives}
 use Rattle.reading.specs.Back.{got, bytes_of_all}
 use Rattle.fields.specs.Bytes.{Wrote}
 use Rattle.reading.specs.Each.{times}
 use Rattle.reading.specs.Reading.{accepted, refused, run, is_accepted}
 use Rattle.reading.proofs.Repetition.{times-accepted, times-got, times-never, times-ends}
 use Rattle.layout.specs.declared.Laid.{Laid}
-use Rattle.layout.specs.declared.Placed.TheVariants.{At, Refused}
 use Rattle.layout.specs.Layout.{nothing_laid, place_of, layout_from, layout_of}
 use Rattle.layout.proofs.Places.{layout_stops, layout_goes_on, placed_by}
 use Rattle.values.specs.declared.Dialect.{Dialect}
@@ -26,7 +27,6 @@ use Rattle.values.specs.Contents.{inside_of}
 use Rattle.sheet.specs.declared.TensorParts.{TensorParts}
 use Rattle.sheet.specs.Format.{SheetTensor, tensor}
 use Rattle.sheet.proofs.PartsFound.{tensor-told}
-use Rattle.plan.specs.declared.LaidOut.TheVariants.{Fits}
 use Rattle.plan.specs.Header.{piece_of, content_at, laid_with, laid_from}
 use Rattle.plan.specs.Plan.{laid_of}
 use Rattle.plan.proofs.PartLengths.{tensor-length}
@@ -52,11 +52,11 @@ module _ (k : Dialect) (a : ℕ) (s : List ℕ) (m : ℕ) where
   pub record Going (o out : List ℕ) (at from : ℕ) (laid : Laid) (i : ℕ) (whole : List ℕ) : Type 0 where
     pub below : i ≤ m
     pub all : is_accepted (run (times (m - i) tensor) s from) ≡ true
-    pub fits : Fits ≡ laid_of (layout_from a laid i (map piece_of (left_from i from)))
+    pub fits : gives tt ≡ laid_of (layout_from a laid i (map piece_of (left_from i from)))
     pub part : Part o out at (bytes_from i from laid) whole
 
   -- at the start all is left
-  pub going_start : (o : List ℕ) (first : ℕ) → is_accepted (run (times m tensor) s first) ≡ true → Fits ≡ laid_of (layout_of a (map piece_of (got (run (times m tensor) s first))))
+  pub going_start : (o : List ℕ) (first : ℕ) → is_accepted (run (times m tensor) s first) ≡ true → gives tt ≡ laid_of (layout_of a (map piece_of (got (run (times m tensor) s first))))
       → Going o o 0 first nothing_laid 0 (bytes_of_all (tensor_bytes k) (laid_from a nothing_laid (got (run (times m tensor) s first))))
   going_start o first all fits =
       let z : m - 0 ≡ m = omega arith in
@@ -78,7 +78,7 @@ module _ (k : Dialect) (a : ℕ) (s : List ℕ) (m : ℕ) where
       next-left : left_from i from ≡ t ∷ left_from (i + 1) q
       next-left = times-got tensor s from m i below e g.all
 
-      going_refused : {w : ℕ} → place_of a laid (lengths t.parts.shape) t.parts.kind ≡ Refused w → ⊥
+      going_refused : {w : ℕ} → place_of a laid (lengths t.parts.shape) t.parts.kind ≡ Err w → ⊥
       going_refused r =
           let f = rw (next-left, layout_stops a laid i (piece_of t) (map piece_of (left_from (i + 1) q)) r) at g.fits in
           let z : ◌≡◌ {A = ℕ} 0 1 = cc in
@@ -95,7 +95,7 @@ module _ (k : Dialect) (a : ℕ) (s : List ℕ) (m : ℕ) where
           let c = tensor-length k (content_at t laid.next) in
           omega arith
 
-      goes_on : {offset size : ℕ} {after : Laid} → place_of a laid (lengths t.parts.shape) t.parts.kind ≡ At offset size after
+      goes_on : {offset size : ℕ} {after : Laid} → place_of a laid (lengths t.parts.shape) t.parts.kind ≡ Ok (record { offset = offset; size = size; laid = after })
           → (ys : List ℕ) (n : ℕ) → Wrote (tensor_bytes k (content_at t offset)) (mid_of at (length out - at) out) ys n → length ys ≡ length (mid_of at (length out - at) out)
           → Going o (put_mid at (length out - at) out ys) (at + n) q after (i + 1) whole
       goes_on {offset} {size} {after} r ys n w same =
@@ -113,7 +113,7 @@ module _ (k : Dialect) (a : ℕ) (s : List ℕ) (m : ℕ) where
         placed_alike : place_of a laid (lengths t.parts.shape) t.parts.kind ≡ place_of a laid (lengths x.shape) x.kind
         placed_alike = ap (λ (y : TensorParts). place_of a laid (lengths y.shape) y.kind) (sym told)
 
-        pub never-refused : {w : ℕ} → place_of a laid (lengths x.shape) x.kind ≡ Refused w → ⊥
+        pub never-refused : {w : ℕ} → place_of a laid (lengths x.shape) x.kind ≡ Err w → ⊥
         never-refused r = going_refused (placed_alike ∙ r)
 
         pub going_room : length whole ≤ length o → at + (size_width k + length (inside_of s x.name) + shape_size x.shape.dimensions + 12) ≤ length out
@@ -122,7 +122,7 @@ module _ (k : Dialect) (a : ℕ) (s : List ℕ) (m : ℕ) where
         written-alike : {offset : ℕ} → ◌≡◌ {A = TensorContent} (content_of (inside_of s x.name) x.shape x.kind offset) (content_at t offset)
         written-alike = rw (told, name-stands s from e)
 
-        pub going_on : {offset size : ℕ} {after : Laid} → place_of a laid (lengths x.shape) x.kind ≡ At offset size after
+        pub going_on : {offset size : ℕ} {after : Laid} → place_of a laid (lengths x.shape) x.kind ≡ Ok (record { offset = offset; size = size; laid = after })
             → (ys : List ℕ) (n : ℕ) → Wrote (tensor_bytes k (content_of (inside_of s x.name) x.shape x.kind offset)) (mid_of at (length out - at) out) ys n
             → length ys ≡ length (mid_of at (length out - at) out) → Going o (put_mid at (length out - at) out ys) (at + n) q after (i + 1) whole
         going_on r ys n w same = goes_on (placed_alike ∙ r) ys n (rw written-alike at w) same

@@ -1,5 +1,6 @@
 -- What is written of an item or a value that is there and no array: a scalar or a text. Assumes
 -- nothing.
+use Rattle.std.specs.Prelude.{Some, None}
 use Prim.Native.Nat.{ℕ, suc, ◌+◌, ◌-◌, ◌≤◌}
 use mathlib.Core.Path.{◌≡◌, refl, sym, ap, ◌∙◌}
 use mathlib.Core.Bool.{Bool, true, false}
@@ -20,8 +21,6 @@ use Rattle.values.specs.declared.Span.{Span}
 use Rattle.plan.proofs.PartLengths.{text-length}
 use Rattle.sheet.specs.Format.{Text, text_of, text, scalar, item, value}
 use Rattle.sheet.specs.Sheet.{span_of}
-use Rattle.sheet.specs.declared.Stepped.TheVariants.{To}
-use Rattle.sheet.specs.declared.TextFound.TheVariants.{Found, Bad}
 use Rattle.sheet.proofs.SheetItems.{has-none, item-text, item-none, value-text, value_none}
 use Rattle.sheet.proofs.PartsFound.{TextTold, scalar-told, sure_text_of, sure_text}
 use Rattle.sheet.proofs.BackFromAnswers.{span_no, span_yes, step_there}
@@ -36,7 +35,7 @@ pub record ScalarSaid (d : ℕ) (k : Dialect) (t : ℕ) (s : List ℕ) (p : ℕ)
   pub there : is_accepted (run (scalar t) s p) ≡ true
   pub bytes : bytes_of k.big (scalar_width t) (number_in (run (scalar t) s p)) ≡ value_bytes (suc d) k (content_read r)
   pub size : length (value_bytes (suc d) k (content_read r)) ≡ scalar_width t
-  pub ends : To (p + scalar_width t) ≡ step_of r
+  pub ends : Some (p + scalar_width t) ≡ step_of r
   pub inside : p + scalar_width t ≤ length s
 
 module _ (d : ℕ) (k : Dialect) (t : ℕ) (s : List ℕ) (p : ℕ) (r : Answer (Content (suc d))) where
@@ -53,7 +52,7 @@ module _ (d : ℕ) (k : Dialect) (t : ℕ) (s : List ℕ) (p : ℕ) (r : Answer 
         there = ap is_accepted (sym e);
         bytes = b;
         size = ap length (sym b) ∙ length_bytes_of k.big (scalar_width t) (number_in (run (scalar t) s p));
-        ends = ap To (sym g.0) ∙ ap step_of (sym i);
+        ends = ap Some (sym g.0) ∙ ap step_of (sym i);
         inside = omega (arith, g.0, g.1);
       }
   scalar_by (refused n o) e i h = absurd (not_there i h)
@@ -75,7 +74,7 @@ word_bytes d k r b q i = ap (λ x. value_bytes (suc d) k (content_read x)) (sym 
 pub record ItemText (k : Dialect) (t : ℕ) (s : List ℕ) (p : ℕ) (a : Span) (q : ℕ) : Type 0 where
   pub bytes : text_bytes k (inside_of s a) ≡ value_bytes 1 k (content_read (run (item 1 t) s p))
   pub size : length (value_bytes 1 k (content_read (run (item 1 t) s p))) ≡ size_width k + length (inside_of s a)
-  pub ends : To q ≡ step_of (run (item 1 t) s p)
+  pub ends : Some q ≡ step_of (run (item 1 t) s p)
 
 module _ (k : Dialect) (t : ℕ) (s : List ℕ) (p : ℕ) (none : 0 ≡ scalar_width t) (there : is_accepted (run (item 1 t) s p) ≡ true) where
   -- no other than a text is an item here
@@ -89,7 +88,7 @@ module _ (k : Dialect) (t : ℕ) (s : List ℕ) (p : ℕ) (none : 0 ≡ scalar_w
   item-run : run (item 1 t) s p ≡ and_then (run text s p) (λ a q. accepted (a_text a.bytes) q)
   item-run = rw item-typed (item-text s p 0)
 
-  pub item_no : Bad ≡ span_of (run text s p) → ⊥
+  pub item_no : None ≡ span_of (run text s p) → ⊥
   unfolding and_then
   item_no e =
       let r = span_no (run text s p) e in
@@ -102,7 +101,7 @@ module _ (k : Dialect) (t : ℕ) (s : List ℕ) (p : ℕ) (none : 0 ≡ scalar_w
       let b = ap (text_bytes k) (text-inside ((sure_text s p).holds x q e)) ∙ word_bytes 0 k (run (item 1 t) s p) x.bytes q i in
       record { bytes = b; size = ap length (sym b) ∙ text-length k (inside_of s x.span); ends = ap step_of (sym i) }
 
-  pub item_yes : {a : Span} {q : ℕ} → Found a q ≡ span_of (run text s p) → ItemText k t s p a q
+  pub item_yes : {a : Span} {q : ℕ} → Some (a, q) ≡ span_of (run text s p) → ItemText k t s p a q
   item_yes {a} {q} e = let r = span_yes (run text s p) e in rw r.told (text-there r.what q r.is)
 
 -- a value that is a text: all that stands from p up to the entry's end e
@@ -112,7 +111,7 @@ pub record ValueText (k : Dialect) (e t : ℕ) (s : List ℕ) (p : ℕ) : Type 0
   pub bytes : text_bytes k (take (e - p) (drop p s)) ≡ value_bytes (suc depth) k (content_read (run (value e t) s p))
   pub size : length (value_bytes (suc depth) k (content_read (run (value e t) s p))) ≡ size_width k + length (take (e - p) (drop p s))
 
-module _ (k : Dialect) (e t : ℕ) (s : List ℕ) (p : ℕ) (none : 0 ≡ scalar_width t) (other : t ≡ 9 → ⊥) (there : To e ≡ step_of (run (value e t) s p)) where
+module _ (k : Dialect) (e t : ℕ) (s : List ℕ) (p : ℕ) (none : 0 ≡ scalar_width t) (other : t ≡ 9 → ⊥) (there : Some e ≡ step_of (run (value e t) s p)) where
   value-typed : t ≡ 8
   value-typed = by (eqb t 8) refl
     where
@@ -133,7 +132,7 @@ module _ (k : Dialect) (e t : ℕ) (s : List ℕ) (p : ℕ) (none : 0 ≡ scalar
   value-by : (x : Answer Text) → x ≡ run (text_of (e - p)) s p → run (value e t) s p ≡ and_then x (λ a q. accepted (a_text a.bytes) q) → ValueText k e t s p
   unfolding and_then
   value-by (accepted x q) i j =
-      let m : To e ≡ To q = there ∙ ap step_of j in
+      let m : Some e ≡ Some q = there ∙ ap step_of j in
       let o : q ≡ e = cc in
       value_made x (rw o at i) (rw o at j)
   value-by (refused n o) i j = absurd (not_there j (step_there (run (value e t) s p) there))

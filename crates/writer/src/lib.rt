@@ -4,9 +4,10 @@
 // `write_header` asks `plan` first, so that a refusal finds the output as it was.
 #![tactic(auto)]
 
-ghost use Rattle.std.specs.Prelude.{◌≡◌, true, map, ◌++◌, ℕ, suc, ◌+◌, ◌≤◌, ◌<◌, length};
+ghost use Rattle.std.specs.Prelude.{◌≡◌, true, map, ◌++◌, ℕ, suc, ◌+◌, ◌≤◌, ◌<◌, length, Some};
 ghost use Rattle.reading.specs.Reading.{run, is_accepted};
 ghost use Rattle.reading.specs.Each.{times};
+ghost use Rattle.reading.specs.Replies.{as_reply, gives};
 ghost use Rattle.reading.specs.Back.{got, bytes_of_all};
 ghost use Rattle.fields.specs.Bytes.{bytes_of, Wrote};
 ghost use Rattle.fields.specs.Value.{width_of};
@@ -19,10 +20,7 @@ ghost use Rattle.start.specs.Format.{little_magic};
 ghost use Rattle.start.specs.Contents.{start_bytes};
 ghost use Rattle.header.specs.Contents.{header_bytes};
 ghost use Rattle.sheet.specs.Format as format;
-ghost use Rattle.sheet.specs.declared.Stepped.TheVariants.{To};
 ghost use Rattle.sheet.specs.Sheet.{sheet_of};
-ghost use Rattle.plan.specs.declared.Planned.TheVariants.{Fine};
-ghost use Rattle.plan.specs.declared.LaidOut.TheVariants.{Fits};
 ghost use Rattle.plan.specs.Header as header_of;
 ghost use Rattle.plan.specs.Plan as plan_of;
 ghost use Rattle.writer.specs.Output as output;
@@ -30,19 +28,19 @@ ghost use Rattle.plan.specs.Steps.{content_read};
 ghost use Rattle.writer.specs.Steps.{coming_before, entry_count, length_size, number_in, shape_size};
 ghost use Rattle.sheet.specs.Steps.{step_of};
 
-use fields::{Number, Width};
-use layout::{Laid, Placed};
-use plan::{Draft, Plan, Planned};
-use scalars::ScalarWidth;
-use sheet::{EntryParts, TensorFound, TensorParts, TextFound};
+use fields::Width;
+use layout::Laid;
+use plan::{Draft, Plan};
+use reading::Refusal;
+use sheet::{EntryParts, TensorParts};
 use tensors::Shape;
 use values::Dialect;
 
-// Where the header ends and where its data starts, or the refusal.
+// Where a header that was written ends, and where its data starts.
 #[derive(Clone, Copy)]
-pub enum HeaderWritten {
-    Written { end: usize, start: usize },
-    Refused { why: u64, place: usize },
+pub struct Written {
+    pub end: usize,
+    pub start: usize,
 }
 
 // How many bytes were written, and the place in the sheet after what they say.
@@ -53,6 +51,7 @@ pub struct Copied {
 }
 
 // A size.
+#[tactic(auto, unfolding(values::specs::Contents::size_bytes))]
 fn write_size(out: &mut [u8], n: u64, dialect: Dialect) -> usize
     requires { size_width dialect ≤ length out.old }
     ensures value { result ≡ size_width dialect }
@@ -66,6 +65,7 @@ fn write_size(out: &mut [u8], n: u64, dialect: Dialect) -> usize
 }
 
 // A text, after its size.
+#[tactic(auto, using(fields::proofs::Chain::chain), unfolding(values::specs::Contents::text_bytes))]
 fn write_string(out: &mut [u8], text: &[u8], dialect: Dialect) -> usize
     requires { size_width dialect + length text.now ≤ length out.old }
     ensures value { result ≡ size_width dialect + length text.now }
@@ -76,6 +76,7 @@ fn write_string(out: &mut [u8], text: &[u8], dialect: Dialect) -> usize
 }
 
 // The number of a type, of a kind, or a count of dimensions.
+#[tactic(auto, unfolding(values::specs::Contents::type_bytes))]
 fn write_type(out: &mut [u8], t: u64, dialect: Dialect) -> usize
     requires { 4 ≤ length out.old }
     ensures value { result ≡ 4 }
@@ -99,10 +100,10 @@ fn write_scalar(
     ensures value { result ≡ scalar_width t }
     ensures wrote { Wrote (bytes_of dialect.big (scalar_width t) (number_in (run (format.scalar t) s.now at))) out.old out.new result }
 {
-    match fields::number_at(s, at, width, true) {
-        Number::Refused { why: _, place: _ } => 0,
-        Number::Value { value, next: _ } => fields::put_number(out, value, width, dialect.big),
-    }
+    let Ok((value, _)) = fields::number_at(s, at, width, true) else {
+        return 0;
+    };
+    fields::put_number(out, value, width, dialect.big)
 }
 
 // An item of an array, which is there and no array.
@@ -110,44 +111,40 @@ fn write_item(out: &mut [u8], s: &[u8], at: usize, t: u64, dialect: Dialect) -> 
     requires at_value { is_accepted (run (format.item 1 t) s.now at) ≡ true }
     requires at_in_bounds { length (contents.value_bytes 1 dialect (content_read (run (format.item 1 t) s.now at))) ≤ length out.old }
     ensures wrote { Wrote (contents.value_bytes 1 dialect (content_read (run (format.item 1 t) s.now at))) out.old out.new result.written }
-    ensures next_value { To result.next ≡ step_of (run (format.item 1 t) s.now at) }
+    ensures next_value { Some result.next ≡ step_of (run (format.item 1 t) s.now at) }
 {
-    match scalars::scalar_width(t) {
-        ScalarWidth::Of { width } => {
-            let written = write_scalar(out, s, at, t, width, dialect);
-            Copied {
-                written,
-                next: at + written,
-            }
-        }
-        ScalarWidth::None => match sheet::text_at(s, at) {
-            TextFound::Bad => Copied {
-                written: 0,
-                next: at,
-            },
-            TextFound::Found { span, next } => Copied {
-                written: write_string(out, values::inside(s, span), dialect),
-                next,
-            },
-        },
+    if let Some(width) = scalars::scalar_width(t) {
+        let written = write_scalar(out, s, at, t, width, dialect);
+        return Copied {
+            written,
+            next: at + written,
+        };
     }
+    let Some((span, next)) = sheet::text_at(s, at) else {
+        return Copied {
+            written: 0,
+            next: at,
+        };
+    };
+    let written = write_string(out, values::inside(s, span), dialect);
+    Copied { written, next }
 }
 
-// n items of the type t, which are all there and no arrays.
+// n items of the type t, which are all there and no arrays. This loop stands in `write_arrays` and
+// in `write_entries` too: one for all would take a ghost value that says what is read, and a call
+// in a cycle of calls can pick none.
 fn write_items(out: &mut [u8], s: &[u8], at: usize, n: u64, t: u64, dialect: Dialect) -> Copied
     requires at_value { is_accepted (run (times n (format.item 1 t)) s.now at) ≡ true }
     requires at_in_bounds { length (bytes_of_all (contents.value_bytes 1 dialect) (got (run (times n (format.item 1 t)) s.now at))) ≤ length out.old }
     ensures wrote { Wrote (bytes_of_all (contents.value_bytes 1 dialect) (got (run (times n (format.item 1 t)) s.now at))) out.old out.new result.written }
-    ensures next_value { To result.next ≡ step_of (run (times n (format.item 1 t)) s.now at) }
+    ensures next_value { Some result.next ≡ step_of (run (times n (format.item 1 t)) s.now at) }
 {
     let mut from = at;
-    let mut done: usize = 0;
-    let mut i: u64 = 0;
-    while i < n {
+    let mut done = 0;
+    for _ in 0..n {
         let copied = write_item(&mut out[done..], s, from, t, dialect);
         done += copied.written;
         from = copied.next;
-        i += 1;
     }
     Copied {
         written: done,
@@ -157,21 +154,22 @@ fn write_items(out: &mut [u8], s: &[u8], at: usize, n: u64, t: u64, dialect: Dia
 
 // An array, which is there and in which, itself counted, depth arrays may stand in one another: its
 // item type, its count and its items.
-#[cycle(write_array_payload_write_arrays)]
+#[cycle(arrays)]
+#[tactic(auto, using(plan::proofs::ArraysSaid::no_type, plan::proofs::ArraysSaid::no_count, sheet::proofs::SheetArrays::array_deep))]
 fn write_array_payload(out: &mut [u8], s: &[u8], at: usize, dialect: Dialect, depth: u64) -> Copied
     requires at_value { is_accepted (run (format.array depth (format.item depth)) s.now at) ≡ true }
     requires at_in_bounds { length (contents.value_bytes (suc depth) dialect (content_read (run (format.array depth (format.item depth)) s.now at))) ≤ length out.old }
     ensures wrote { Wrote (contents.value_bytes (suc depth) dialect (content_read (run (format.array depth (format.item depth)) s.now at))) out.old out.new result.written }
-    ensures next_value { To result.next ≡ step_of (run (format.array depth (format.item depth)) s.now at) }
+    ensures next_value { Some result.next ≡ step_of (run (format.array depth (format.item depth)) s.now at) }
 {
     let none = Copied {
         written: 0,
         next: at,
     };
-    let Number::Value { value: t, next: p } = fields::number_at(s, at, Width::One, true) else {
+    let Ok((t, p)) = fields::number_at(s, at, Width::One, true) else {
         return none;
     };
-    let Number::Value { value: n, next: q } = fields::number_at(s, p, Width::Four, true) else {
+    let Ok((n, q)) = fields::number_at(s, p, Width::Four, true) else {
         return none;
     };
     let a = write_type(out, t, dialect);
@@ -192,21 +190,19 @@ fn write_array_payload(out: &mut [u8], s: &[u8], at: usize, dialect: Dialect, de
 
 // n arrays, which are all there. This and `write_array_payload` call each other at most depth times,
 // so that depth bounds their stack.
-#[cycle(write_array_payload_write_arrays)]
+#[cycle(arrays)]
 fn write_arrays(out: &mut [u8], s: &[u8], at: usize, n: u64, dialect: Dialect, depth: u64) -> Copied
     requires at_value { is_accepted (run (times n (format.array depth (format.item depth))) s.now at) ≡ true }
     requires at_in_bounds { length (bytes_of_all (contents.value_bytes (suc depth) dialect) (got (run (times n (format.array depth (format.item depth))) s.now at))) ≤ length out.old }
     ensures wrote { Wrote (bytes_of_all (contents.value_bytes (suc depth) dialect) (got (run (times n (format.array depth (format.item depth))) s.now at))) out.old out.new result.written }
-    ensures next_value { To result.next ≡ step_of (run (times n (format.array depth (format.item depth))) s.now at) }
+    ensures next_value { Some result.next ≡ step_of (run (times n (format.array depth (format.item depth))) s.now at) }
 {
     let mut from = at;
-    let mut done: usize = 0;
-    let mut i: u64 = 0;
-    while i < n {
+    let mut done = 0;
+    for _ in 0..n {
         let copied = write_array_payload(&mut out[done..], s, from, dialect, depth);
         done += copied.written;
         from = copied.next;
-        i += 1;
     }
     Copied {
         written: done,
@@ -223,20 +219,17 @@ fn write_metadata_value(
     form: u64,
     dialect: Dialect,
 ) -> usize
-    requires end_value { To end ≡ step_of (run (format.value end form) s.now at) }
+    requires end_value { Some end ≡ step_of (run (format.value end form) s.now at) }
     requires at_in_bounds { length (contents.value_bytes (suc depth) dialect (content_read (run (format.value end form) s.now at))) ≤ length out.old }
     ensures { Wrote (contents.value_bytes (suc depth) dialect (content_read (run (format.value end form) s.now at))) out.old out.new result }
 {
-    match scalars::scalar_width(form) {
-        ScalarWidth::Of { width } => write_scalar(out, s, at, form, width, dialect),
-        ScalarWidth::None => {
-            if form == 9 {
-                let array = write_array_payload(out, s, at, dialect, 4);
-                return array.written;
-            }
-            write_string(out, &s[at..end], dialect)
-        }
+    if let Some(width) = scalars::scalar_width(form) {
+        return write_scalar(out, s, at, form, width, dialect);
     }
+    if form == 9 {
+        return write_array_payload(out, s, at, dialect, 4).written;
+    }
+    write_string(out, &s[at..end], dialect)
 }
 
 // An entry: its key, its type, and its value, which stands in the sheet up to end.
@@ -249,7 +242,7 @@ fn write_entry(
     form: u64,
     dialect: Dialect,
 ) -> usize
-    requires end_value { To end ≡ step_of (run (format.value end form) s.now at) }
+    requires end_value { Some end ≡ step_of (run (format.value end form) s.now at) }
     requires at_in_bounds { size_width dialect + length key.now + 4 + length (contents.value_bytes (suc depth) dialect (content_read (run (format.value end form) s.now at))) ≤ length out.old }
     ensures { Wrote (contents.text_bytes dialect key.now ++ contents.type_bytes dialect form ++ contents.value_bytes (suc depth) dialect (content_read (run (format.value end form) s.now at))) out.old out.new result }
 {
@@ -263,26 +256,22 @@ fn write_entries(out: &mut [u8], s: &[u8], at: usize, n: usize, dialect: Dialect
     requires at_value { is_accepted (run (times n format.metadata) s.now at) ≡ true }
     requires at_in_bounds { length (bytes_of_all (contents.entry_bytes dialect) (map header_of.entry_in (got (run (times n format.metadata) s.now at)))) ≤ length out.old }
     ensures wrote { Wrote (bytes_of_all (contents.entry_bytes dialect) (map header_of.entry_in (got (run (times n format.metadata) s.now at)))) out.old out.new result.written }
-    ensures next_value { To result.next ≡ step_of (run (times n format.metadata) s.now at) }
+    ensures next_value { Some result.next ≡ step_of (run (times n format.metadata) s.now at) }
 {
     let mut from = at;
-    let mut done: usize = 0;
-    let mut i: usize = 0;
-    while i < n {
-        let entry = sheet::known_entry(s, from);
-        let parts = entry.parts;
-        let key = parts.key;
+    let mut done = 0;
+    for _ in 0..n {
+        let (parts, next) = sheet::known_entry(s, from);
         done += write_entry(
             &mut out[done..],
-            values::inside(s, key),
+            values::inside(s, parts.key),
             s,
             parts.value,
-            entry.next,
+            next,
             parts.form,
             dialect,
         );
-        from = entry.next;
-        i += 1;
+        from = next;
     }
     Copied {
         written: done,
@@ -307,17 +296,13 @@ fn entries_before(s: &[u8], n: usize) -> usize
     requires { is_accepted (run (times n format.metadata) s.now 1) ≡ true }
     ensures { result ≡ coming_before (got (run (times n format.metadata) s.now 1)) }
 {
-    let mut from: usize = 1;
-    let mut i: usize = 0;
-    while i < n {
-        let entry = sheet::known_entry(s, from);
-        let parts = entry.parts;
-        let key = parts.key;
-        if fields::comes_before(b"general.alignment", values::inside(s, key)) {
+    let mut from = 1;
+    for i in 0..n {
+        let (parts, next) = sheet::known_entry(s, from);
+        if fields::comes_before(b"general.alignment", values::inside(s, parts.key)) {
             return i;
         }
-        from = entry.next;
-        i += 1;
+        from = next;
     }
     n
 }
@@ -342,11 +327,11 @@ fn write_metadata_section(
         let upper = write_entries(&mut out[b..], s, lower.next, draft.entries - n, dialect);
         return b + upper.written;
     }
-    let all = write_entries(out, s, 1, draft.entries, dialect);
-    all.written
+    write_entries(out, s, 1, draft.entries, dialect).written
 }
 
 // The length at the place i of a shape of n dimensions: beyond those nothing is written.
+#[tactic(auto, unfolding(tensors::specs::Contents::length_bytes))]
 fn write_length(out: &mut [u8], n: u64, i: u64, v: u64, dialect: Dialect) -> usize
     requires { length_size n i ≤ length out.old }
     ensures value { result ≡ length_size n i }
@@ -390,6 +375,7 @@ fn write_shape(out: &mut [u8], x: Shape, dialect: Dialect) -> usize
 }
 
 // The kind and the offset.
+#[tactic(auto, using(fields::proofs::Chain::chain), unfolding(tensors::specs::Contents::kind_and_offset_bytes))]
 fn write_kind_and_offset(out: &mut [u8], kind: u64, offset: u64, dialect: Dialect) -> usize
     requires { 12 ≤ length out.old }
     ensures value { result ≡ 12 }
@@ -429,12 +415,10 @@ fn write_laid_tensor(
     ensures value { result ≡ size_width dialect + length (contents.inside_of s.now parts.name) + shape_size parts.shape.dimensions + 12 }
     ensures wrote { Wrote (tensor_bytes dialect (content_of (contents.inside_of s.now parts.name) parts.shape parts.kind offset)) out.old out.new result }
 {
-    let name = parts.name;
-    let shape = parts.shape;
     write_tensor_info(
         out,
-        values::inside(s, name),
-        shape,
+        values::inside(s, parts.name),
+        parts.shape,
         parts.kind,
         offset,
         dialect,
@@ -451,30 +435,23 @@ fn write_tensor_info_section(
     dialect: Dialect,
 ) -> usize
     requires first_value { is_accepted (run (times m format.tensor) s.now first) ≡ true }
-    requires value { Fits ≡ plan_of.laid_of (layout_of alignment (map header_of.piece_of (got (run (times m format.tensor) s.now first)))) }
+    requires value { gives tt ≡ plan_of.laid_of (layout_of alignment (map header_of.piece_of (got (run (times m format.tensor) s.now first)))) }
     requires first_in_bounds { length (bytes_of_all (tensor_bytes dialect) (header_of.laid_from alignment nothing_laid (got (run (times m format.tensor) s.now first)))) ≤ length out.old }
     ensures { Wrote (bytes_of_all (tensor_bytes dialect) (header_of.laid_from alignment nothing_laid (got (run (times m format.tensor) s.now first)))) out.old out.new result }
 {
     let mut from = first;
     let mut laid = Laid { total: 0, next: 0 };
-    let mut done: usize = 0;
-    let mut i: usize = 0;
-    while i < m {
-        let TensorFound::Found { parts, next } = sheet::tensor_at(s, from) else {
+    let mut done = 0;
+    for _ in 0..m {
+        let Some((parts, next)) = sheet::tensor_at(s, from) else {
             return done;
         };
-        let Placed::At {
-            offset,
-            size: _,
-            laid: after,
-        } = plan::lay(laid, parts, alignment)
-        else {
+        let Ok(placed) = plan::lay(laid, parts, alignment) else {
             return done;
         };
-        done += write_laid_tensor(&mut out[done..], s, parts, offset, dialect);
-        laid = after;
+        done += write_laid_tensor(&mut out[done..], s, parts, placed.offset, dialect);
+        laid = placed.laid;
         from = next;
-        i += 1;
     }
     done
 }
@@ -514,7 +491,7 @@ fn entry_count(draft: Draft) -> u64
 
 // The whole header of a sheet for which the plan was made.
 fn write_records(out: &mut [u8], s: &[u8], plan: Plan, alignment: u64, dialect: Dialect) -> usize
-    requires { Fine plan ≡ plan_of.plan_for dialect alignment (length out.old) s.now }
+    requires { gives plan ≡ plan_of.plan_for dialect alignment (length out.old) s.now }
     ensures { Wrote (output.header_for dialect alignment s.now) out.old out.new result }
 {
     let draft = plan.draft;
@@ -532,19 +509,20 @@ fn write_records(out: &mut [u8], s: &[u8], plan: Plan, alignment: u64, dialect: 
 
 // Writes the header of a sheet, and zeros up to the start of its data. Where it refuses, the output
 // stays as it was.
-pub fn write_header(s: &[u8], dialect: Dialect, alignment: u64, out: &mut [u8]) -> HeaderWritten
-    ensures value { result ≡ output.written_of (plan_of.plan_for dialect alignment (length out.old) s.now) }
+pub fn write_header(
+    s: &[u8],
+    dialect: Dialect,
+    alignment: u64,
+    out: &mut [u8],
+) -> Result<Written, Refusal>
+    ensures value { as_reply result ≡ output.written_of (plan_of.plan_for dialect alignment (length out.old) s.now) }
     ensures out_after { out.new ≡ output.left_by (plan_of.plan_for dialect alignment (length out.old) s.now) (output.header_for dialect alignment s.now) out.old }
 {
-    match plan::plan_header(s, dialect, alignment, out.len()) {
-        Planned::Refused { why, place } => HeaderWritten::Refused { why, place },
-        Planned::Fine { plan } => {
-            let end = write_records(out, s, plan, alignment, dialect);
-            fields::put_zeros(&mut out[end..], plan.start - plan.end);
-            HeaderWritten::Written {
-                end: plan.end,
-                start: plan.start,
-            }
-        }
-    }
+    let plan = plan::plan_header(s, dialect, alignment, out.len())?;
+    let end = write_records(out, s, plan, alignment, dialect);
+    fields::put_zeros(&mut out[end..], plan.start - plan.end);
+    Ok(Written {
+        end: plan.end,
+        start: plan.start,
+    })
 }

@@ -1,4 +1,3 @@
-use Prim.Native.Nat.{◌-◌, ◌≤◌}
 use mathlib.Core.Path.{◌≡◌}
 use mathlib.Core.List.{◌++◌, map}
 use lib.ListN.{length, drop}
@@ -10,8 +9,5 @@ use Rattle.fetches.proofs.fill.Given as goal
 
 abbrev pub invariant-loop-i : goal.invariant-loop-i
 invariant-loop-i l =
-    (l.i ≤ length l.rows) × (length l.answers ≡ length l.initial.answers)
+    (length l.answers ≡ length l.initial.answers)
     × (map (answer_of l.start l.file (got (fetches l.trace))) l.rows ++ drop (length l.rows) l.initial.answers ≡ filled_from (answer_of l.start l.file (got (fetches l.trace))) l.rows l.i l.answers)
-
-abbrev pub decreases-loop-i : goal.decreases-loop-i
-decreases-loop-i l = length l.rows - l.i

@@ -1,4 +1,4 @@
-use Prim.Native.Nat.{ℕ, ◌-◌, ◌≤◌}
+use Prim.Native.Nat.{ℕ, ◌-◌}
 use mathlib.Core.Path.{◌≡◌}
 use mathlib.Core.List.{List, ◌++◌}
 use mathlib.Core.Bool.{true}
@@ -11,14 +11,10 @@ use Rattle.values.specs.declared.Dialect.{Dialect}
 use Rattle.header.proofs.fill_tensors.Given as goal
 
 pub record Filling (s : List ℕ) (at n : ℕ) (dialect : Dialect) (rows₀ rows : List (List ℕ)) (from i : ℕ) : Type 0 where
-  pub low : i ≤ n
-  pub long : length rows ≡ length rows₀
+  pub long : length rows ≡ n
   pub total : ℕ
   pub all : is_accepted (run (each (tensor dialect) total_of (n - i) total) s from) ≡ true
   pub left : filled tensor_row rows₀ (run (each (tensor dialect) total_of n 0) s at) ≡ take i rows ++ filled tensor_row (drop i rows) (run (each (tensor dialect) total_of (n - i) total) s from)
 
-abbrev pub invariant-loop-i : goal.invariant-loop-i
-invariant-loop-i l = Filling l.s l.at l.n l.dialect l.initial.rows l.rows l.from l.i
-
-abbrev pub decreases-loop-i : goal.decreases-loop-i
-decreases-loop-i l = l.n - l.i
+abbrev pub invariant-loop-row : goal.invariant-loop-row
+invariant-loop-row l = Filling l.s l.at l.n l.dialect l.initial.row-items l.row-items l.from l.row-index

@@ -1,4 +1,4 @@
-use Prim.Native.Nat.{◌-◌, ◌≤◌}
+use Prim.Native.Nat.{◌-◌}
 use mathlib.Core.Path.{◌≡◌}
 use Rattle.reading.specs.Reading.{run, seen}
 use Rattle.reading.specs.Each.{times, fold}
@@ -6,10 +6,6 @@ use Rattle.values.specs.Format.{entry}
 use Rattle.header.specs.Format.{latest}
 use Rattle.header.proofs.pass_entries.Given as goal
 
-abbrev pub invariant-loop-i : goal.invariant-loop-i
-invariant-loop-i l =
-    (l.i ≤ l.n)
-    × (seen (fold latest 32) (run (times l.n (entry l.dialect l.cap)) l.s l.at) ≡ seen (fold latest l.alignment) (run (times (l.n - l.i) (entry l.dialect l.cap)) l.s l.from))
-
-abbrev pub decreases-loop-i : goal.decreases-loop-i
-decreases-loop-i l = l.n - l.i
+abbrev pub invariant-loop : goal.invariant-loop
+invariant-loop l =
+    seen (fold latest 32) (run (times l.n (entry l.dialect l.cap)) l.s l.at) ≡ seen (fold latest l.alignment) (run (times (l.n - l.counter) (entry l.dialect l.cap)) l.s l.from)

@@ -1,89 +1,59 @@
 -- `header::read` meets its contract: each stage that refuses ends the run, and past the last one
 -- both tables are filled. Assumes nothing.
+use Rattle.std.proofs.Common.{rules, Err}
 use mathlib.Core.Path.{◌≡◌, refl, sym, ap, ◌∙◌}
 use lib.ListN.{length}
-use Prim.Native.Nat.{ℕ}
-use mathlib.Core.List.{List}
 use Rattle.reading.specs.Each.{filled}
 use Rattle.reading.specs.Reading.{is_accepted, seen}
-use Rattle.fields.specs.Value.{as_number}
 use Rattle.values.specs.Rows.{entry_row}
 use Rattle.tensors.specs.Rows.{tensor_row}
-use Rattle.start.specs.declared.Rooms.{Rooms}
-use Rattle.start.specs.Answers.{as_start}
 use Rattle.header.specs.Steps.{header_after}
-use Rattle.header.proofs.Stages.{Started, Aligned, told, Passed, no_start, no_entries, above, no_header, reached}
-use Rattle.header.proofs.read.Goals.{After-header_after, In-Found, In-Found-header_after, In-Value}
+use Rattle.header.proofs.Stages.{Passed, no_start, no_entries, above, no_header, reached}
+use Rattle.header.proofs.read.Goals.{In_ok-header}
 use Rattle.header.proofs.read.Goals as goal
 
--- as many rows as the tables have
-abbrev rooms : (entries tensors : List (List ℕ)) → Rooms
-rooms entries tensors = record { entries = length entries; tensors = length tensors }
-
--- what was read at each stage
-started : (c : In-Found) →
-    Started c.args.limits (rooms c.args.entries.now c.args.tensors.now) c.args.cap c.args.s.now c.in-Found.start c.in-Found.p
-started c = ap as_start (sym c.in-Found.is) ∙ c.read_start.ensures
-
-aligned : (c : In-Value) →
-    Aligned c.args.limits (rooms c.args.entries.now c.args.tensors.now) c.args.cap c.args.s.now c.in-Found.start c.in-Found.p c.in-Value.alignment c.in-Value.q
-aligned c = ap as_number (sym c.in-Value.is) ∙ c.test_entries.ensures.result_value
-
--- what is told of the header
-tells : (c : After-header_after) →
-    c.header_after.result ≡ told c.args.limits (rooms c.args.entries.now c.args.tensors.now) c.args.cap c.args.s.now c.in-Found.start c.in-Value.alignment c.in-Value.q
-tells c = c.header_after.ensures ∙ ap (header_after _ _) c.pass_tensors-ended.ensures
-
 -- all that is known where a header was told
-known : (c : In-Found-header_after) →
-    Passed c.args.limits (rooms c.args.entries.now c.args.tensors.now) c.args.cap c.args.s.now c.in-Found.start c.in-Found.p c.in-Value.q c.in-Found-header_after.header
+known : (c : In_ok-header) →
+    let a = c.args in
+    Passed a.limits (record { entries = length a.entries.now; tensors = length a.tensors.now }) a.cap a.s.now c.in_ok-start.start c.in_ok-start.p c.in_ok-alignment.q c.in_ok-header.header
 known c =
-    let started_here : (Started c.args.limits (rooms c.args.entries.now c.args.tensors.now) c.args.cap c.args.s.now c.in-Found.start c.in-Found.p) = ap as_start (sym c.in-Found.is) ∙ c.read_start.ensures in
-    let aligned_here : (Aligned c.args.limits (rooms c.args.entries.now c.args.tensors.now) c.args.cap c.args.s.now c.in-Found.start c.in-Found.p c.in-Value.alignment c.in-Value.q) = ap as_number (sym c.in-Value.is) ∙ c.test_entries.ensures.result_value in
-    let tells_here : (c.header_after.result ≡ told c.args.limits (rooms c.args.entries.now c.args.tensors.now) c.args.cap c.args.s.now c.in-Found.start c.in-Value.alignment c.in-Value.q) = c.header_after.ensures ∙ ap (header_after _ _) c.pass_tensors-ended.ensures in
-    reached _ _ _ _ started_here aligned_here (sym c.in-Found-header_after.is ∙ tells_here)
+    reached _ _ _ _ c.in_ok-start.ensures c.in_ok-alignment.ensures.result_value (c.in_ok-header.ensures ∙ ap (header_after _ _) c.pass_tensors-ended.ensures)
 
 pub pass_tensors-ended-requires : goal.pass_tensors-ended-requires
-pass_tensors-ended-requires c =
-    above _ _ _ _ (started (goal.at.pass_tensors-ended-requires c).In-Found) (aligned (goal.at.pass_tensors-ended-requires c).In-Value)
+pass_tensors-ended-requires c = above _ _ _ _ c.in_ok-start.ensures c.in_ok-alignment.ensures.result_value
 
 pub fill-requires-clause-entries_in_bounds : goal.fill-requires-clause-entries_in_bounds
-fill-requires-clause-entries_in_bounds c =
-    let k = known (goal.at.fill-requires-clause-entries_in_bounds c).In-Found-header_after in
-    k.room
+fill-requires-clause-entries_in_bounds c = (known (goal.at.fill-requires-clause-entries_in_bounds c).In_ok-header).room
 
 pub fill-requires-clause-p_value : goal.fill-requires-clause-p_value
-fill-requires-clause-p_value c =
-    let k = known (goal.at.fill-requires-clause-p_value c).In-Found-header_after in
-    ap is_accepted (sym k.entries)
+fill-requires-clause-p_value c = ap is_accepted (sym (known (goal.at.fill-requires-clause-p_value c).In_ok-header).entries)
 
 pub fill-requires-clause-q_value : goal.fill-requires-clause-q_value
-fill-requires-clause-q_value c =
-    let k = known (goal.at.fill-requires-clause-q_value c).In-Found-header_after in
-    ap is_accepted (sym k.tensors)
+fill-requires-clause-q_value c = ap is_accepted (sym (known (goal.at.fill-requires-clause-q_value c).In_ok-header).tensors)
 
-pub returns-in-Refused : goal.returns-in-Refused
+pub returns-in_err-start : goal.returns-in_err-start
 unfolding seen
-returns-in-Refused c =
-    let r = ap as_start (sym c.in-Refused.is) ∙ c.read_start.ensures in
-    rw (no_start _ _ _ _ r) (record { answer = refl; entry_rows = refl; tensor_rows = refl })
+returns-in_err-start c =
+    let up : c.from_residual.result ≡ Err c.in_err-start.field-0.0 = search rules in
+    rw (up, no_start _ _ _ _ c.in_err-start.ensures) (record { answer = refl; entry_rows = refl; tensor_rows = refl })
 
-pub returns-in-Refused-test_entries : goal.returns-in-Refused-test_entries
+pub returns-in_err-alignment : goal.returns-in_err-alignment
 unfolding seen
-returns-in-Refused-test_entries c =
-    let r = ap as_number (sym c.in-Refused-test_entries.is) ∙ c.test_entries.ensures.result_value in
-    rw (no_entries _ _ _ _ (started (goal.at.returns-in-Refused-test_entries c).In-Found) r) (record { answer = refl; entry_rows = refl; tensor_rows = refl })
+returns-in_err-alignment c =
+    let up : c.from_residual-in_err-alignment.result ≡ Err c.in_err-alignment.field-0.0 = search rules in
+    rw (up, no_entries _ _ _ _ c.in_ok-start.ensures c.in_err-alignment.ensures.result_value) (record { answer = refl; entry_rows = refl; tensor_rows = refl })
 
-pub returns-in-Refused-header_after : goal.returns-in-Refused-header_after
+pub returns-in_err-header : goal.returns-in_err-header
 unfolding seen
-returns-in-Refused-header_after c =
-    let r = sym c.in-Refused-header_after.is ∙ tells (goal.at.returns-in-Refused-header_after c).After-header_after in
-    rw (no_header _ _ _ _ (started (goal.at.returns-in-Refused-header_after c).In-Found) (aligned (goal.at.returns-in-Refused-header_after c).In-Value) r) (record { answer = refl; entry_rows = refl; tensor_rows = refl })
+returns-in_err-header c =
+    let up : c.from_residual-in_err-header.result ≡ Err c.in_err-header.field-0.0 = search rules in
+    let told = c.in_err-header.ensures ∙ ap (header_after _ _) c.pass_tensors-ended.ensures in
+    rw (up, no_header _ _ _ _ c.in_ok-start.ensures c.in_ok-alignment.ensures.result_value told) (record { answer = refl; entry_rows = refl; tensor_rows = refl })
 
-pub returns-in-Found-header_after : goal.returns-in-Found-header_after
+pub returns : goal.returns
 unfolding seen
-returns-in-Found-header_after c =
-    let k = known (goal.at.returns-in-Found-header_after c).In-Found-header_after in
+returns c =
+    let k = known (goal.at.returns c).In_ok-header in
     rw k.all (record {
       answer = refl;
       entry_rows = c.fill.ensures.entries_after ∙ ap (filled entry_row c.args.entries.now) (sym k.entries);

@@ -6,4 +6,4 @@ use Rattle.listing.proofs.put_refusal.Goals as goal
 
 pub returns : goal.returns
 unfolding refusal_line
-returns c = search put-chain depth 12
+returns c = put-chain c.put_labelled-a.ensures c.put_line_end.ensures

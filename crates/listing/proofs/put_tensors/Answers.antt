@@ -5,13 +5,12 @@ use Rattle.listing.specs.Text.{tensor_line}
 use Rattle.text_out.proofs.Writing.{writing_turns, writing_ends, rows-turn, rows_end}
 use Rattle.listing.proofs.put_tensors.Goals as goal
 
-pub loop-i-preserved : goal.loop-i-preserved
-loop-i-preserved c =
-    let l = c.loop-i in
-    (omega arith, writing_turns l.invariant.1 (rows-turn _ _ _ c.loop-i-test.true) c.put_tensor-n.ensures)
+pub loop-row-preserved : goal.loop-row-preserved
+loop-row-preserved c =
+    writing_turns c.loop-row.invariant (rows-turn _ _ _ c.loop-row-test.true) c.put_tensor-n.ensures
 
 pub returns : goal.returns
 returns c =
-    let l = c.loop-i in
+    let l = c.loop-row in
     let a = c.args in
-    writing_ends l.invariant.1 (rows_end (tensor_line a.s.now) a.tensors.now l.i (omega arith))
+    writing_ends l.invariant (rows_end (tensor_line a.s.now) a.tensors.now l.row-index (omega arith))

@@ -1,4 +1,4 @@
-use Prim.Native.Nat.{◌-◌, ◌≤◌}
+use Prim.Native.Nat.{◌-◌}
 use mathlib.Core.Path.{◌≡◌}
 use Rattle.reading.specs.Reading.{run}
 use Rattle.tensors.specs.Format.{total_of}
@@ -8,8 +8,4 @@ use Rattle.lookup.proofs.seek_tensor.Given as goal
 
 abbrev pub invariant-loop-passed : goal.invariant-loop-passed
 invariant-loop-passed l =
-    (l.passed ≤ l.n)
-    × (run (seek (looked_tensor l.name l.dialect) total_of l.n 0 0) l.s l.at ≡ run (seek (looked_tensor l.name l.dialect) total_of (l.n - l.passed) l.total l.passed) l.s l.from)
-
-abbrev pub decreases-loop-passed : goal.decreases-loop-passed
-decreases-loop-passed l = l.n - l.passed
+    run (seek (looked_tensor l.name l.dialect) total_of l.n 0 0) l.s l.at ≡ run (seek (looked_tensor l.name l.dialect) total_of (l.n - l.passed) l.total l.passed) l.s l.from

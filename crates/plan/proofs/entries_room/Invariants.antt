@@ -1,4 +1,4 @@
-use Prim.Native.Nat.{◌-◌, ◌≤◌}
+use Prim.Native.Nat.{◌-◌}
 use mathlib.Core.Path.{◌≡◌}
 use mathlib.Core.Bool.{true}
 use Rattle.reading.specs.Reading.{run, is_accepted}
@@ -8,11 +8,7 @@ use Rattle.plan.specs.Steps.{taken_from}
 use Rattle.plan.proofs.PlanTurns.{entries_length}
 use Rattle.plan.proofs.entries_room.Given as goal
 
-abbrev pub invariant-loop-i : goal.invariant-loop-i
-invariant-loop-i l =
-    (l.i ≤ l.n)
-    × (is_accepted (run (times (l.n - l.i) metadata) l.s l.from) ≡ true)
-    × (taken_from l.initial.left (entries_length l.dialect l.n l.s 1) ≡ taken_from l.left (entries_length l.dialect (l.n - l.i) l.s l.from))
-
-abbrev pub decreases-loop-i : goal.decreases-loop-i
-decreases-loop-i l = l.n - l.i
+abbrev pub invariant-loop : goal.invariant-loop
+invariant-loop l =
+    (is_accepted (run (times (l.n - l.counter) metadata) l.s l.from) ≡ true)
+    × (taken_from l.initial.left (entries_length l.dialect l.n l.s 1) ≡ taken_from l.left (entries_length l.dialect (l.n - l.counter) l.s l.from))

@@ -1,41 +1,34 @@
 -- `plan::lay_tensors` meets its contract. The invariant: the tensors that are left, after what is
 -- laid, give what all of them do. Assumes nothing.
 use mathlib.Core.Path.{◌≡◌, sym, ◌∙◌}
-use native.Mathlib.Omega.{arith}
-use Rattle.reading.specs.Reading.{run}
-use Rattle.sheet.specs.Format.{tensor}
-use Rattle.sheet.specs.Sheet.{tensor_of}
-use Rattle.sheet.specs.declared.TensorFound.TheVariants.{Found}
+use Rattle.std.proofs.Common.{rules, of_calls}
+use Rattle.std.proofs.lemmas.Result.{err_from_is_err_and}
+use Rattle.plan.proofs.Mapped.{mapped-ok, mapped-err}
 use Rattle.plan.proofs.PlanTurns.{tensor-never, tensor-rest, laid-stops, laid_goes_on, laid-ends}
-use Rattle.plan.proofs.lay_tensors.Goals.{In-Found}
 use Rattle.plan.proofs.lay_tensors.Goals as goal
 
--- the tensor that was found
-found : (c : In-Found) →
-    Found c.in-Found.parts c.in-Found.next ≡ tensor_of (run tensor c.args.s.now c.loop-i.from)
-found c = sym c.in-Found.is ∙ c.tensor_at.ensures
+pub returns-in_default : goal.returns-in_default
+returns-in_default c =
+    absurd (tensor-never _ _ _ _ c.loop-i-test.true c.loop-i.invariant.0 c.in_default.ensures)
 
-pub returns-in-Bad : goal.returns-in-Bad
-returns-in-Bad c =
-    absurd (tensor-never _ _ _ _ c.loop-i-test.true c.loop-i.invariant.1 (sym c.in-Bad.is ∙ c.tensor_at.ensures))
-
-pub returns-in-Refused : goal.returns-in-Refused
-returns-in-Refused c =
+pub returns-in_err-placed : goal.returns-in_err-placed
+returns-in_err-placed c =
     let v = c.loop-i in
-    let a = c.args in
-    sym (v.invariant.2 ∙ laid-stops _ _ _ _ c.loop-i-test.true v.invariant.1 (found (goal.at.returns-in-Refused c).In-Found) a.alignment v.laid (sym c.lay.ensures ∙ c.in-Refused.is))
+    let p = err_from_is_err_and c.from_residual.result c.from_residual.ensures.1 in
+    let m = mapped-err c.lay.result c.map_err.result _ c.map_err.ensures.cases c.in_err-placed.was in
+    let h : c.in_err-placed.field-0.0 ≡ record { why = m.0; place = v.i-counter } = search (rules, of_calls, m.2) in
+    rw (p.1, p.2, h) (sym (v.invariant.1 ∙ laid-stops _ _ _ _ c.loop-i-test.true v.invariant.0 c.in-Some.ensures c.args.alignment v.laid (rw m.1 at (sym c.lay.ensures))))
 
 pub loop-i-preserved : goal.loop-i-preserved
 loop-i-preserved c =
     let v = c.loop-i in
-    let a = c.args in
-    let below = c.loop-i-test.true in (
-      omega arith,
-      tensor-rest _ _ _ _ below v.invariant.1 (found (goal.at.loop-i-preserved c).In-Found),
-      v.invariant.2 ∙ laid_goes_on _ _ _ _ below v.invariant.1 (found (goal.at.loop-i-preserved c).In-Found) a.alignment v.laid (sym c.lay.ensures ∙ c.in-At.is),
+    let below = c.loop-i-test.true in
+    let placed = mapped-ok c.lay.result c.map_err.result _ c.map_err.ensures.cases c.in_ok-placed.was in (
+      tensor-rest _ _ _ _ below v.invariant.0 c.in-Some.ensures,
+      v.invariant.1 ∙ laid_goes_on _ _ _ _ below v.invariant.0 c.in-Some.ensures c.args.alignment v.laid (rw placed at (sym c.lay.ensures)),
     )
 
 pub returns : goal.returns
 returns c =
     let v = c.loop-i in
-    sym (v.invariant.2 ∙ laid-ends c.args.alignment v.laid _ _ _ _ c.loop-i-test.false)
+    sym (v.invariant.1 ∙ laid-ends c.args.alignment v.laid _ _ _ _ c.loop-i-test.false)

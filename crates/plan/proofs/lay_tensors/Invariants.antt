@@ -1,4 +1,4 @@
-use Prim.Native.Nat.{◌-◌, ◌≤◌}
+use Prim.Native.Nat.{◌-◌}
 use mathlib.Core.Path.{◌≡◌}
 use mathlib.Core.Bool.{true}
 use mathlib.Core.List.{map}
@@ -13,9 +13,5 @@ use Rattle.plan.proofs.lay_tensors.Given as goal
 
 abbrev pub invariant-loop-i : goal.invariant-loop-i
 invariant-loop-i l =
-    (l.i ≤ l.m)
-    × (is_accepted (run (times (l.m - l.i) tensor) l.s l.from) ≡ true)
-    × (laid_of (layout_of l.alignment (map piece_of (got (run (times l.m tensor) l.s l.first)))) ≡ laid_of (layout_from l.alignment l.laid l.i (map piece_of (got (run (times (l.m - l.i) tensor) l.s l.from)))))
-
-abbrev pub decreases-loop-i : goal.decreases-loop-i
-decreases-loop-i l = l.m - l.i
+    (is_accepted (run (times (l.m - l.i-counter) tensor) l.s l.from) ≡ true)
+    × (laid_of (layout_of l.alignment (map piece_of (got (run (times l.m tensor) l.s l.first)))) ≡ laid_of (layout_from l.alignment l.laid l.i-counter (map piece_of (got (run (times (l.m - l.i-counter) tensor) l.s l.from)))))

@@ -1,4 +1,4 @@
-use Prim.Native.Nat.{◌-◌, ◌≤◌}
+use Prim.Native.Nat.{◌-◌}
 use mathlib.Core.Path.{◌≡◌}
 use mathlib.Core.Bool.{true}
 use Rattle.reading.specs.Back.{got}
@@ -8,11 +8,7 @@ use Rattle.sheet.specs.Format.{metadata}
 use Rattle.plan.specs.Header.{own_alignment_with, own_alignment}
 use Rattle.plan.proofs.own_alignment.Given as goal
 
-abbrev pub invariant-loop-i : goal.invariant-loop-i
-invariant-loop-i l =
-    (l.i ≤ l.n)
-    × (is_accepted (run (times (l.n - l.i) metadata) l.s l.from) ≡ true)
-    × (own_alignment (got (run (times l.n metadata) l.s 1)) ≡ fold own_alignment_with l.said (got (run (times (l.n - l.i) metadata) l.s l.from)))
-
-abbrev pub decreases-loop-i : goal.decreases-loop-i
-decreases-loop-i l = l.n - l.i
+abbrev pub invariant-loop : goal.invariant-loop
+invariant-loop l =
+    (is_accepted (run (times (l.n - l.counter) metadata) l.s l.from) ≡ true)
+    × (own_alignment (got (run (times l.n metadata) l.s 1)) ≡ fold own_alignment_with l.said (got (run (times (l.n - l.counter) metadata) l.s l.from)))

@@ -1,12 +1,8 @@
-use Prim.Native.Nat.{◌-◌, ◌≤◌}
 use mathlib.Core.Path.{◌≡◌}
-use lib.ListN.{length, drop}
+use lib.ListN.{drop}
 use Rattle.ranges.specs.Ranges.{check_from}
 use Rattle.ranges.proofs.check_ranges.Given as goal
 
 abbrev pub invariant-loop-i : goal.invariant-loop-i
 invariant-loop-i l =
-    (l.i ≤ length l.rows) × (check_from l.start l.file 0 l.rows ≡ check_from l.start l.file l.i (drop l.i l.rows))
-
-abbrev pub decreases-loop-i : goal.decreases-loop-i
-decreases-loop-i l = length l.rows - l.i
+    check_from l.start l.file 0 l.rows ≡ check_from l.start l.file l.i (drop l.i l.rows)

@@ -28,14 +28,14 @@ overflow_add-to c = omega (arith, (there (goal.at.overflow_add-to c).After-value
 pub value_in-requires : goal.value_in-requires
 value_in-requires c = omega (arith, (there (goal.at.value_in-requires c).After-value_in-len).there)
 
+pub overflow_add-parts : goal.overflow_add-parts
+overflow_add-parts c = omega (arith, (there (goal.at.overflow_add-parts c).After-value_in-len).there)
+
 pub overflow_add-result : goal.overflow_add-result
 overflow_add-result c = omega (arith, (there (goal.at.overflow_add-result c).After-value_in-len).there)
 
 pub overflow_add-result-2 : goal.overflow_add-result-2
-overflow_add-result-2 c = omega (arith, (there (goal.at.overflow_add-result-2 c).After-value_in-len).there)
-
-pub overflow_add-result-3 : goal.overflow_add-result-3
-overflow_add-result-3 c = omega (arith, (there (goal.at.overflow_add-result-3 c).After-value_in-len).ends)
+overflow_add-result-2 c = omega (arith, (there (goal.at.overflow_add-result-2 c).After-value_in-len).ends)
 
 pub returns : goal.returns
 returns c = rw c.value_in.ensures (there (goal.at.returns c).After-value_in-len).is

@@ -6,4 +6,4 @@ use Rattle.text_out.proofs.put_labelled.Goals as goal
 
 pub returns : goal.returns
 unfolding labelled
-returns c = search put-chain depth 12
+returns c = put-chain c.put_text-a.ensures c.put_decimal.ensures

@@ -6,4 +6,4 @@ use Rattle.text_out.proofs.put_line_end.Goals as goal
 
 pub returns : goal.returns
 unfolding line_end
-returns c = search put-chain depth 12
+returns c = put-chain c.put_labelled-a.ensures c.put_text.ensures

@@ -1,32 +1,27 @@
 -- `writer::write_header` meets its contract: a refusal of the plan leaves the output alone; else
 -- the plan's header is written, and zeros up to its data. Assumes nothing.
-use mathlib.Core.Path.{◌≡◌, sym, ◌∙◌}
 use native.Mathlib.Omega.{arith}
 use lib.ListN.{length, length-take, length-drop}
 use Rattle.fields.proofs.Chain.{chain}
-use Rattle.plan.specs.declared.Planned.TheVariants.{Fine}
-use Rattle.plan.specs.Plan.{plan_for}
 use Rattle.writer.proofs.Planned.{PlannedBy, planned-by, header-end, header-room, start-room, left-written}
-use Rattle.writer.proofs.write_header.Goals.{In-Fine}
+use Rattle.writer.proofs.write_header.Goals.{In_ok-plan}
 use Rattle.writer.proofs.write_header.Goals as goal
 
--- the plan that was made
-fine : (c : In-Fine) →
+-- what the plan tells
+told : (c : In_ok-plan) →
     let a = c.args in
-    Fine c.in-Fine.plan ≡ plan_for a.dialect a.alignment (length a.out.now) a.s.now
-fine c = sym c.in-Fine.is ∙ c.plan_header.ensures
-
--- what it tells
-told : (c : In-Fine) →
-    let a = c.args in
-    PlannedBy a.dialect a.alignment (length a.out.now) a.s.now c.in-Fine.plan
-told c = planned-by _ _ _ _ (fine c)
+    PlannedBy a.dialect a.alignment (length a.out.now) a.s.now c.in_ok-plan.plan
+told c = planned-by _ _ _ _ c.in_ok-plan.ensures
 
 pub overflow_sub-plan : goal.overflow_sub-plan
-overflow_sub-plan c = header-room (told (goal.at.overflow_sub-plan c).In-Fine)
+overflow_sub-plan c = header-room (told (goal.at.overflow_sub-plan c).In_ok-plan)
 
 pub put_zeros-requires : goal.put_zeros-requires
-put_zeros-requires c = simp (length-take, length-drop) (omega (arith, header-end (told (goal.at.put_zeros-requires c).In-Fine), header-room (told (goal.at.put_zeros-requires c).In-Fine), start-room (told (goal.at.put_zeros-requires c).In-Fine), c.write_records-end.ensures.count, c.write_records-end.auto.out))
+put_zeros-requires c =
+    let p = told (goal.at.put_zeros-requires c).In_ok-plan in
+    simp (length-take, length-drop) (omega (arith, header-end p, header-room p, start-room p, c.write_records-end.ensures.count, c.write_records-end.auto.out))
 
-pub returns-in-Fine-clause-out_after : goal.returns-in-Fine-clause-out_after
-returns-in-Fine-clause-out_after c = rw (← fine (goal.at.returns-in-Fine-clause-out_after c).In-Fine) (left-written (told (goal.at.returns-in-Fine-clause-out_after c).In-Fine) (chain c.write_records-end.ensures c.put_zeros.ensures.wrote))
+pub returns-clause-out_after : goal.returns-clause-out_after
+returns-clause-out_after c =
+    let p = told (goal.at.returns-clause-out_after c).In_ok-plan in
+    rw (← c.in_ok-plan.ensures) (left-written p (chain c.write_records-end.ensures c.put_zeros.ensures.wrote))

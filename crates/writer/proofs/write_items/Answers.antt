@@ -10,40 +10,40 @@ use Rattle.sheet.specs.Format.{item}
 use Rattle.sheet.proofs.BackFromAnswers.{step_yes}
 use Rattle.writer.proofs.RowsWritten.{Next, left-next, left-turn, left_end}
 use Rattle.plan.specs.Steps.{content_read}
-use Rattle.writer.proofs.write_items.Goals.{In-loop-i}
+use Rattle.writer.proofs.write_items.Goals.{In-loop}
 use Rattle.writer.proofs.write_items.Goals as goal
 
 -- the item that comes next, and that there is room for it
-next : (c : In-loop-i) →
-    let l = c.loop-i in
+next : (c : In-loop) →
+    let l = c.loop in
     let a = c.args in
     Next (item 1 a.t) (value_bytes 1 a.dialect) a.s.now l.from l.done l.out
-next c = left-next _ _ _ _ _ c.loop-i.invariant c.loop-i-test.true c.requires.at_in_bounds
+next c = left-next _ _ _ _ _ c.loop.invariant c.loop-test.true c.requires.at_in_bounds
 
-room : (c : In-loop-i) →
-    let l = c.loop-i in
+room : (c : In-loop) →
+    let l = c.loop in
     let a = c.args in
     l.done + length (value_bytes 1 a.dialect (content_read (run (item 1 a.t) a.s.now l.from))) ≤ length l.out
 room c =
-    let l = c.loop-i in
+    let l = c.loop in
     let a = c.args in
     subst (λ r. l.done + length (value_bytes 1 a.dialect (content_read r)) ≤ length l.out) (next c).is (next c).room
 
 pub write_item-copied-requires-clause-at_value : goal.write_item-copied-requires-clause-at_value
-write_item-copied-requires-clause-at_value c = ap is_accepted (sym (next (goal.at.write_item-copied-requires-clause-at_value c).In-loop-i).is)
+write_item-copied-requires-clause-at_value c = ap is_accepted (sym (next (goal.at.write_item-copied-requires-clause-at_value c).In-loop).is)
 
 pub write_item-copied-requires-clause-at_in_bounds : goal.write_item-copied-requires-clause-at_in_bounds
-write_item-copied-requires-clause-at_in_bounds c = simp (length-take, length-drop) (omega (arith, room (goal.at.write_item-copied-requires-clause-at_in_bounds c).In-loop-i))
+write_item-copied-requires-clause-at_in_bounds c = simp (length-take, length-drop) (omega (arith, room (goal.at.write_item-copied-requires-clause-at_in_bounds c).In-loop))
 
-pub loop-i-preserved : goal.loop-i-preserved
-loop-i-preserved c =
-    let l = c.loop-i in
+pub loop-preserved : goal.loop-preserved
+loop-preserved c =
+    let l = c.loop in
     let a = c.args in
     let y = step_yes (run (item 1 a.t) a.s.now l.from) c.write_item-copied.ensures.next_value in
-    left-turn _ _ _ _ _ l.invariant c.loop-i-test.true y.is (ap (λ r. value_bytes 1 a.dialect (content_read r)) (sym y.is)) c.write_item-copied.ensures.wrote c.write_item-copied.auto.out
+    left-turn _ _ _ _ _ l.invariant c.loop-test.true y.is (ap (λ r. value_bytes 1 a.dialect (content_read r)) (sym y.is)) c.write_item-copied.ensures.wrote c.write_item-copied.auto.out
 
 pub returns-clause-wrote : goal.returns-clause-wrote
-returns-clause-wrote c = (left_end _ _ _ _ _ c.loop-i.invariant c.loop-i-test.false).0
+returns-clause-wrote c = (left_end _ _ _ _ _ c.loop.invariant c.loop-test.false).0
 
 pub returns-clause-next_value : goal.returns-clause-next_value
-returns-clause-next_value c = (left_end _ _ _ _ _ c.loop-i.invariant c.loop-i-test.false).1
+returns-clause-next_value c = (left_end _ _ _ _ _ c.loop.invariant c.loop-test.false).1
