@@ -15,12 +15,12 @@ pub clash : {A : Type 0} {b : Bool} → b ≡ true → b ≡ false → A
 clash h g = absurd (subst T (sym h ∙ g) tt)
 
 -- how two bytes compare
-data Bytes (x y : ℕ) : Type 0 where
+pub data Bytes (x y : ℕ) : Type 0 where
   less : x < y → Bytes x y
   same : x ≡ y → Bytes x y
   more : y < x → Bytes x y
 
-compared : (x y : ℕ) → Bytes x y
+pub compared : (x y : ℕ) → Bytes x y
 compared x y = first (ltb x y) refl (ltb y x) refl
   where
     first : (b : Bool) → ltb x y ≡ b → (d : Bool) → ltb y x ≡ d → Bytes x y
@@ -29,13 +29,13 @@ compared x y = first (ltb x y) refl (ltb y x) refl
     first false e false f = let h = ltb-false x y e in let g = ltb-false y x f in same (omega arith)
 
 module _ (x y : ℕ) (xs ys : List ℕ) where
-  at_less : x < y → before (x ∷ xs) (y ∷ ys) ≡ true
+  pub at_less : x < y → before (x ∷ xs) (y ∷ ys) ≡ true
   at_less h = rw (lt-ltb x y h) refl
 
-  at_same : x ≡ y → before (x ∷ xs) (y ∷ ys) ≡ before xs ys
+  pub at_same : x ≡ y → before (x ∷ xs) (y ∷ ys) ≡ before xs ys
   at_same e = rw (le-ltb x y (omega arith), eq-eqb x y e) refl
 
-  at_more : y < x → before (x ∷ xs) (y ∷ ys) ≡ false
+  pub at_more : y < x → before (x ∷ xs) (y ∷ ys) ≡ false
   at_more h = rw (le-ltb x y (omega arith), ne_eqb x y (λ e. absurd (omega arith))) refl
 
 pub not_itself : (a : List ℕ) → before a a ≡ false

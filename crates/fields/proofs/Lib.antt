@@ -4,4 +4,5 @@ pub mod Swaps
 pub mod Chain
 pub mod Order
 pub mod Before
+pub mod Fronts
 pub mod NumberFields

@@ -19,7 +19,7 @@ module _ (s : List ℕ) (bytes : (i : ℕ) → get_or s i 0 < 256) where
   elems-bytes at i (suc w) = (bytes (at + i), elems-bytes at (suc i) w)
 
   -- a field of a slice of bytes is bytes
-  field_of_bytes : (at w : ℕ) → at + suc w ≤ length s → All Byte (take (suc w) (drop at s))
+  pub field_of_bytes : (at w : ℕ) → at + suc w ≤ length s → All Byte (take (suc w) (drop at s))
   field_of_bytes at w h = rw (field-bytes s at w h) (bytes at, elems-bytes at 1 w)
 
   pub turned-four : (at : ℕ) → at + 4 ≤ length s → value true (bytes_of false 4 (le_value (take 4 (drop at s)))) ≡ value true (take 4 (drop at s))

@@ -1,7 +1,7 @@
 // The keys of a header's entries in byte order, each once: which entry row comes next.
 #![tactic(auto)]
 
-ghost use Rattle.std.specs.Prelude.{◌≡◌};
+ghost use Rattle.std.specs.Prelude.{◌≡◌, ℕ, IfSome, Some, if◌then◌else◌};
 ghost use Rattle.values.specs.Contents.{inside_of};
 ghost use Rattle.key_order.specs.Order as order;
 
@@ -32,48 +32,32 @@ fn key_at<'a>(s: &'a [u8], entries: &[EntryRow], i: usize) -> &'a [u8]
     }
 }
 
-// Whether a key is still to come, where the walk stands at last.
-fn is_to_come(s: &[u8], entries: &[EntryRow], last: Option<usize>, key: &[u8]) -> bool
-    ensures { result ≡ order.to_come s.now entries.now last key.now }
-{
-    match last {
-        None => true,
-        Some(row) => fields::comes_before(key_at(s, entries, row), key),
-    }
-}
-
-// The better of the best so far and the row i, which has that key.
-fn better(
-    s: &[u8],
-    entries: &[EntryRow],
-    best: Option<usize>,
-    i: usize,
-    key: &[u8],
-) -> Option<usize>
-    ensures { result ≡ order.better s.now entries.now best i key.now }
-{
-    match best {
-        Some(row) if fields::comes_before(key_at(s, entries, row), key) => best,
-        _ => Some(i),
-    }
-}
-
-// The best so far, once the row i was looked at.
-fn improved(
+// Whether a key is still to come, where the walk stands at last, whose key is last_key.
+fn is_to_come(
     s: &[u8],
     entries: &[EntryRow],
     last: Option<usize>,
-    best: Option<usize>,
-    i: usize,
-) -> Option<usize>
-    ensures { result ≡ order.improved s.now entries.now last best i (order.key_at s.now entries.now i) }
+    last_key: &[u8],
+    key: &[u8],
+) -> bool
+    requires { IfSome last (λ row. last_key.now ≡ order.key_at s.now entries.now row) }
+    ensures { result ≡ order.to_come s.now entries.now last key.now }
 {
-    let key = key_at(s, entries, i);
-    if is_to_come(s, entries, last, key) {
-        better(s, entries, best, i, key)
-    } else {
-        best
-    }
+    last.is_none() || fields::comes_before(last_key, key)
+}
+
+// Whether a key is better than that of the best so far, which is best_key.
+fn is_better(
+    s: &[u8],
+    entries: &[EntryRow],
+    best: Option<usize>,
+    best_key: &[u8],
+    key: &[u8],
+) -> bool
+    requires { IfSome best (λ row. best_key.now ≡ order.key_at s.now entries.now row) }
+    ensures { (i : ℕ) → order.better s.now entries.now best i key.now ≡ (if result then Some i else best) }
+{
+    best.is_none() || !fields::comes_before(best_key, key)
 }
 
 // The row whose key comes next, in byte order, where the walk stands at last. Of equal keys the
@@ -81,9 +65,21 @@ fn improved(
 pub fn next_key(s: &[u8], entries: &[EntryRow], last: Option<usize>) -> Option<usize>
     ensures { result ≡ order.next_key s.now entries.now last }
 {
+    // The two keys that each row's is compared with are looked up once, and not at each row.
+    let last_key = match last {
+        Some(row) => key_at(s, entries, row),
+        None => name_in(s, 0, 0),
+    };
     let mut best = None;
+    let mut best_key = last_key;
     for i in 0..entries.len() {
-        best = improved(s, entries, last, best, i);
+        let key = key_at(s, entries, i);
+        if is_to_come(s, entries, last, last_key, key)
+            && is_better(s, entries, best, best_key, key)
+        {
+            best = Some(i);
+            best_key = key;
+        }
     }
     best
 }

@@ -8,3 +8,4 @@ pub mod FullReader
 pub mod TensorAnswers
 pub mod Examples
 pub mod TensorExamples
+pub mod Refusals

@@ -1,3 +1,4 @@
 pub mod Questions
 pub mod Search
 pub mod Tensors
+pub mod Refusals

@@ -6,15 +6,16 @@
 // refuses the lookup of a good key. A string comes back as the part of the prefix that holds it.
 #![tactic(auto)]
 
-ghost use Rattle.std.specs.Prelude.{◌≡◌, true, ◌+◌, ◌≤◌, length, None};
+ghost use Rattle.std.specs.Prelude.{◌≡◌, ℕ, true, ◌+◌, ◌≤◌, length, None};
 ghost use Rattle.reading.specs.Reading.{run, is_accepted};
 ghost use Rattle.reading.specs.Each.{times, fold};
-ghost use Rattle.reading.specs.Replies.{as_reply};
+ghost use Rattle.reading.specs.Replies.{as_reply, reason_number};
 ghost use Rattle.reading.specs.Back.{got};
 ghost use Rattle.values.specs.Format.{is_word, entry};
 ghost use Rattle.values.specs.Contents.{bytes_at};
 ghost use Rattle.tensors.specs.Format.{total_of};
 ghost use Rattle.lookup.specs.Questions as questions;
+ghost use Rattle.lookup.specs.Refusals.{reply_by};
 ghost use Rattle.lookup.specs.Search.{seek};
 ghost use Rattle.lookup.specs.Tensors.{looked_tensor, tensor_found, tensor_lookup};
 
@@ -38,6 +39,49 @@ pub const STATUS_STRING: u64 = 0;
 pub const STATUS_ABSENT: u64 = 100;
 
 pub const STATUS_OTHER_TYPE: u64 = 101;
+
+// What a refusal tells: its number, and the place that it is about. A caller may put numbers of its
+// own beside those that have a Reason, so what tells a refusal takes any.
+pub trait Refuses: Copy {
+    ghost number: { Self → ℕ };
+
+    ghost place: { Self → ℕ };
+
+    fn number(self) -> u64
+        ensures { result ≡ number self };
+
+    fn place(self) -> usize
+        ensures { result ≡ place self };
+}
+
+impl Refuses for Refusal {
+    ghost number = { λ refusal. reason_number refusal.why };
+
+    ghost place = { λ refusal. refusal.place };
+
+    fn number(self) -> u64 {
+        self.why.number()
+    }
+
+    fn place(self) -> usize {
+        self.place
+    }
+}
+
+// Any number, and a place.
+impl Refuses for (u64, usize) {
+    ghost number = { λ told. told.0 };
+
+    ghost place = { λ told. told.1 };
+
+    fn number(self) -> u64 {
+        self.0
+    }
+
+    fn place(self) -> usize {
+        self.1
+    }
+}
 
 // Whether a text is that key.
 #[tactic(auto, using(values::proofs::Words::same_word))]
@@ -78,23 +122,23 @@ pub fn find(s: &[u8], key: &[u8]) -> Result<Option<Entry>, Refusal>
     Ok(find_last(s, at, head.entries, dialect, key))
 }
 
-// The string that a lookup found, as the part of the prefix that holds it; an empty part where it
-// found none.
-pub fn string_of(s: &[u8], found: Result<Option<Entry>, Refusal>) -> &[u8]
-    ensures { result.now ≡ questions.string_of s.now (as_reply found) }
+// The string that a lookup found, as the part of the prefix that holds it; an empty part of it where
+// that found none.
+pub fn string_of<R: Refuses>(s: &[u8], found: Result<Option<Entry>, R>) -> &[u8]
+    ensures { result.now ≡ questions.string_of s.now (reply_by R.number R.place found) }
 {
     let Ok(Some(entry)) = found else {
-        return &[];
+        return &s[..0];
     };
     match entry.value {
         Value::Text(text) => values::inside(s, text),
-        Value::Single(_) | Value::Array(_) => &[],
+        Value::Single(_) | Value::Array(_) => &s[..0],
     }
 }
 
 // The status of a string question: a string, 'absent', another type, or a refusal.
-pub fn string_status(found: Result<Option<Entry>, Refusal>) -> [u64; 2]
-    ensures { result ≡ questions.string_status (as_reply found) }
+pub fn string_status<R: Refuses>(found: Result<Option<Entry>, R>) -> [u64; 2]
+    ensures { result ≡ questions.string_status (reply_by R.number R.place found) }
 {
     match found {
         Ok(Some(entry)) => match entry.value {
@@ -102,7 +146,7 @@ pub fn string_status(found: Result<Option<Entry>, Refusal>) -> [u64; 2]
             Value::Single(_) | Value::Array(_) => [STATUS_OTHER_TYPE, 0],
         },
         Ok(None) => [STATUS_ABSENT, 0],
-        Err(refusal) => [refusal.why.number(), refusal.place as u64],
+        Err(refusal) => [refusal.number(), refusal.place() as u64],
     }
 }
 

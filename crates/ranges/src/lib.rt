@@ -8,15 +8,15 @@ ghost use Rattle.reading.specs.Replies.{as_reply};
 use reading::{Reason, Refusal};
 use rows::{OFFSET, SIZE, TensorRow};
 
-// Whether data at an offset from start, of so many bytes, ends inside a file. A sum that would wrap
-// is past every file.
+// Whether data at an offset from start, of so many bytes, ends inside a file. Only differences are
+// made, which can't wrap, and the first is the same for every row.
 pub fn ends_inside(start: u64, offset: u64, size: u64, file: u64) -> bool
     ensures { result ≡ leb (start + offset + size) file }
 {
-    start
-        .checked_add(offset)
-        .and_then(|at| at.checked_add(size))
-        .is_some_and(|end| end <= file)
+    let Some(area) = file.checked_sub(start) else {
+        return false;
+    };
+    offset <= area && size <= area - offset
 }
 
 // Whether the data of every tensor row ends inside a file of so many bytes, whose data starts at

@@ -10,7 +10,7 @@ use native.Mathlib.Omega.{arith}
 use native.Mathlib.Numerals.{add-one}
 use lib.ListN.{drop_of_length-le, length, take, drop, get_or, length-drop, length-take}
 use lib.Seq.{drop-cons, length-take-le, take_all}
-use lib.Dec.{leb, eqb}
+use lib.Dec.{eqb-suc-zero, leb, eqb}
 use borrow.Author.Tests.{leb-true, leb-false, eq-eqb, ne_eqb, le-leb, tests}
 use Rattle.reading.specs.Back.{same, Sure}
 use Rattle.reading.specs.Reading.{Reading, done, field, Answer, accepted, refused, run, ◌>>=◌, ◌>>◌, here, check, and_then}
@@ -102,6 +102,11 @@ pub begins-short : (w text : List ℕ) → length text < length w → begins w t
 begins-short [] text h = absurd (omega arith)
 begins-short (x ∷ w) [] h = refl
 begins-short (x ∷ w) (y ∷ text) h = begins_cases (eqb x y) (begins w text) (begins-short w text (omega arith))
+
+-- of too few bytes none begin with a word, unless it has none
+pub begins-few : (w text : List ℕ) → (0 < length w → length text < length w) → eqb (length w) 0 ≡ begins w text
+begins-few [] text h = refl
+begins-few (x ∷ w) text h = rw (eqb-suc-zero (length w)) (sym (begins-short (x ∷ w) text (h (omega arith))))
 
 -- a turn of the comparison, as a loop has it: from the byte i on
 abbrev pub begins_from : List ℕ → ℕ → List ℕ → ℕ → Bool

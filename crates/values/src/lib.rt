@@ -110,36 +110,43 @@ pub fn read_string(s: &[u8], at: usize, dialect: Dialect) -> Read<Span>
 }
 
 // Whether the bytes from a place on begin with those of word. Where there are fewer, they don't.
-#[tactic(auto, using(crate::proofs::Words::front_steps))]
+// Byte by byte: most keys differ early from the two words that are looked for in each.
 pub fn begins_at(s: &[u8], place: usize, word: &[u8]) -> bool
     ensures { result ≡ format.begins word.now (drop place s.now) }
 {
-    s.get(place..).unwrap_or(&[]).starts_with(word)
+    if s.len() < word.len() || s.len() - word.len() < place {
+        return word.is_empty();
+    }
+    for (i, &byte) in word.iter().enumerate() {
+        if s[place + i] != byte {
+            return false;
+        }
+    }
+    true
 }
 
-// The part of s where a text is, and no bytes where that is not inside.
+// The part of s where a text is, and its empty front where that is not inside.
 pub fn inside(s: &[u8], span: Span) -> &[u8]
     ensures { result.now ≡ contents.inside_of s.now span }
 {
-    let rest = s.get(span.place..).unwrap_or(&[]);
-    rest.get(..span.len).unwrap_or(&[])
+    s.get(span.place..)
+        .and_then(|rest| rest.get(..span.len))
+        .unwrap_or(&s[..0])
 }
 
 // Whether a text is "general.alignment".
-#[tactic(auto, using(crate::proofs::Words::same_word))]
 pub fn is_alignment_key(text: &[u8]) -> bool
     ensures { result ≡ format.is_word format.alignment_key text.now }
 {
-    text == b"general.alignment".as_slice()
+    text.len() == 17 && begins_at(text, 0, b"general.alignment")
 }
 
 // Whether a text starts with "tokenizer.".
-#[tactic(auto, using(crate::proofs::Words::tokenizer_steps))]
 fn is_tokenizer_key(s: &[u8], span: Span) -> bool
     requires { span.place + span.len ≤ length s.now }
     ensures { result ≡ format.begins format.tokenizer_key (take 18 (take span.len (drop span.place s.now))) }
 {
-    inside(s, span).starts_with(b"tokenizer.")
+    10 <= span.len && begins_at(s, span.place, b"tokenizer.")
 }
 
 // A key, compared where it stands.

@@ -2,12 +2,11 @@
 #![tactic(auto)]
 
 ghost use Rattle.std.specs.Prelude.{◌≡◌, ℕ, List};
-ghost use Rattle.reading.specs.Replies.{as_reply};
+ghost use Rattle.lookup.specs.Refusals.{reply_by};
 ghost use Rattle.words.specs.Words as words;
 
 use header::Header;
-use lookup::TensorSearch;
-use reading::Refusal;
+use lookup::{Refuses, TensorSearch};
 use rows::TensorRow;
 use values::{Entry, Value};
 use writer::Written;
@@ -36,29 +35,29 @@ pub trait Told: Copy {
 }
 
 // The number of an answer: that of its value, or its refusal's.
-pub fn number_of<T: Told>(answer: Result<T, Refusal>) -> u64
-    ensures { result ≡ words.told_number T.number (as_reply answer) }
+pub fn number_of<T: Told, R: Refuses>(answer: Result<T, R>) -> u64
+    ensures { result ≡ words.told_number T.number (reply_by R.number R.place answer) }
 {
     match answer {
         Ok(value) => value.status(),
-        Err(refusal) => refusal.why.number(),
+        Err(refusal) => refusal.number(),
     }
 }
 
 // The words of an answer: those of its value, or its refusal's place.
-pub fn words_of<T: Told>(answer: Result<T, Refusal>) -> [u64; 8]
-    ensures { result ≡ words.told_words T.eight (as_reply answer) }
+pub fn words_of<T: Told, R: Refuses>(answer: Result<T, R>) -> [u64; 8]
+    ensures { result ≡ words.told_words T.eight (reply_by R.number R.place answer) }
 {
     match answer {
         Ok(value) => value.words(),
-        Err(refusal) => one_word(refusal.place as u64),
+        Err(refusal) => one_word(refusal.place() as u64),
     }
 }
 
 // Tells a caller an answer: its words in those that are lent, and its number.
-pub fn tell<T: Told>(answer: Result<T, Refusal>, lent: &mut [u64; 8]) -> u64
-    ensures value { result ≡ words.told_number T.number (as_reply answer) }
-    ensures words_after { lent.new ≡ words.told_words T.eight (as_reply answer) }
+pub fn tell<T: Told, R: Refuses>(answer: Result<T, R>, lent: &mut [u64; 8]) -> u64
+    ensures value { result ≡ words.told_number T.number (reply_by R.number R.place answer) }
+    ensures words_after { lent.new ≡ words.told_words T.eight (reply_by R.number R.place answer) }
 {
     *lent = words_of(answer);
     number_of(answer)
@@ -81,7 +80,7 @@ impl Told for Header {
     ghost eight = { words.header_words };
 
     fn status(self) -> u64 {
-        0
+        0 // it was read
     }
 
     fn words(self) -> [u64; 8] {
@@ -105,7 +104,7 @@ impl Told for () {
     ghost eight = { words.no_words };
 
     fn status(self) -> u64 {
-        0
+        0 // it passed
     }
 
     fn words(self) -> [u64; 8] {
@@ -120,7 +119,7 @@ impl Told for Written {
     ghost eight = { words.placed_words };
 
     fn status(self) -> u64 {
-        0
+        0 // it was written
     }
 
     fn words(self) -> [u64; 8] {
@@ -180,8 +179,8 @@ impl Told for TensorSearch {
 }
 
 // The words of a string question.
-pub fn string_words(found: Result<Option<Entry>, Refusal>) -> [u64; 8]
-    ensures { result ≡ words.string_words (as_reply found) }
+pub fn string_words<R: Refuses>(found: Result<Option<Entry>, R>) -> [u64; 8]
+    ensures { result ≡ words.string_words (reply_by R.number R.place found) }
 {
     match found {
         Ok(Some(entry)) => match entry.value {
@@ -189,13 +188,13 @@ pub fn string_words(found: Result<Option<Entry>, Refusal>) -> [u64; 8]
             Value::Single(_) | Value::Array(_) => one_word(0),
         },
         Ok(None) => one_word(0),
-        Err(Refusal { place, .. }) => one_word(place as u64),
+        Err(refused) => one_word(refused.place() as u64),
     }
 }
 
 // The row of a tensor that was found; otherwise the row stays as it was.
-pub fn put_tensor(found: Result<TensorSearch, Refusal>, row: &mut TensorRow)
-    ensures { row.new ≡ words.row_after row.old (as_reply found) }
+pub fn put_tensor<R: Refuses>(found: Result<TensorSearch, R>, row: &mut TensorRow)
+    ensures { row.new ≡ words.row_after row.old (reply_by R.number R.place found) }
 {
     if let Ok(search) = found {
         if let Some(tensor) = search.tensor {
